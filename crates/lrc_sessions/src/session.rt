@@ -106,8 +106,8 @@ impl<N: Naming> Session<N> {
         self.viewer.load_of(node)
     }
 
-    /// Returns the published stripes at risk with their levels, in the order of repair. It allocates 4,096 rows before it looks.
-    /// It takes no lock and does not wait.
+    /// Returns the published stripes at risk with their levels, in the order of repair. It allocates 4,096 rows and as
+    /// many levels before it looks. It takes no lock and does not wait.
     ///
     /// # Errors
     ///

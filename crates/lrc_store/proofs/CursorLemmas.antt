@@ -25,6 +25,8 @@ use Rattle.lrc_rules.specs.Urgency.{is_grantable, all_fragments}
 use Rattle.lrc_store.specs.Stores.{stored_of}
 use Rattle.lrc_rules.specs.Granting.{IsGrantable, ComesFirst, IsMostUrgent}
 use Rattle.lrc_rules.specs.Leases.{with_lease}
+use Rattle.lrc_store.specs.declared.cursor.RepairCursor.{RepairCursor}
+use Rattle.lrc_store.specs.declared.cursor.RepairCursor.TheVariants.{First, At, End}
 use Rattle.lrc_store.specs.Repairing.{IsPast, IsRepairCursor, HaveGrantable}
 use Rattle.lrc_rules.proofs.MemberLemmas.{All-members, map-member, member-filter, list_any-member}
 use Rattle.lrc_rules.proofs.UrgencyLemmas.{fragments-from, needs-own}
@@ -87,9 +89,10 @@ module _ (nodes : List NodeInfo) (st : State) (l : LeaseRecord) where
             };
       }
 
-  pub cursor-leased : (cursor : Option StripeNo) → IsRepairCursor nodes st cursor → IsRepairCursor nodes next cursor
-  cursor-leased None is = tt
-  cursor-leased (Some s) is = record { there = is.there; fragment = is.fragment; needed = is.needed; first = λ p so. is.first p (still-grantable p so) }
+  pub cursor-leased : (cursor : RepairCursor) → IsRepairCursor nodes st cursor → IsRepairCursor nodes next cursor
+  cursor-leased First is = is
+  cursor-leased End is = λ p so. is p (still-grantable p so)
+  cursor-leased (At s) is = record { there = is.there; fragment = is.fragment; needed = is.needed; first = λ p so. is.first p (still-grantable p so) }
 
   urgent-once : (s t : StripeNo) → ComesFirst nodes st s t → ComesFirst nodes st t s → ⊥
   urgent-once s t (inl less) (inl more) = omega (arith, less, more)

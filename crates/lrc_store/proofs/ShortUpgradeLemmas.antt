@@ -1,8 +1,8 @@
--- A stripe that an upgrade would lose is short: it needs a lease, or has homes on several nodes that are not online.
-use Rattle.std.proofs.Common.{[], ◌≡◌, ◌≢◌, ◌⊎◌, ℕ, ◌+◌, ◌-◌, ◌≤◌, ◌<◌, inl, inr, Bool, true, false, not, ◌&&◌, ◌||◌, cond, List, ◌∷◌, map, ap₂, Option, Some, None, option_map, ap₂, IsFalse, IsSomeAnd, arith, refl, sym, ap, ap₂, ◌∙◌, subst}
+-- A stripe that an upgrade would lose is short: it misses several fragments, and it needs a lease or has homes on several nodes that are not online.
+use Rattle.std.proofs.Common.{[], ◌≡◌, ◌≢◌, ◌⊎◌, ℕ, ◌+◌, ◌-◌, ◌≤◌, ◌<◌, inl, inr, Bool, true, false, not, ◌&&◌, ◌||◌, nat_le, cond, List, ◌∷◌, map, ap₂, Option, Some, None, option_map, ap₂, IsFalse, IsSomeAnd, arith, refl, sym, ap, ap₂, ◌∙◌, subst}
 use Rattle.std.specs.List.{Contains, count_by}
 use Rattle.std.specs.Option.{option_map_or}
-use Rattle.std.proofs.lemmas.Bool.{cases_Bool, eqb-true, eq-eqb, ltb-false, le-leb, ltb-true, not-true, and_parts, and_from}
+use Rattle.std.proofs.lemmas.Bool.{cases_Bool, eqb-true, eq-eqb, ltb-false, leb-false, le-leb, ltb-true, not-true, and_parts, and_cases, and_from}
 use Rattle.std.proofs.lemmas.List.Elements.{All-contains, Contains-append_left}
 use Rattle.std.proofs.lemmas.List.Sums.{sum_by-cons}
 use Rattle.lrc_code.specs.declared.codes.Class.{Class}
@@ -22,9 +22,9 @@ use Rattle.lrc_topology.specs.declared.NodeInfo.{NodeInfo}
 use Rattle.lrc_topology.specs.declared.seat.Seat.{Seat}
 use Rattle.lrc_topology.specs.declared.seat.Held.{Held}
 use Rattle.lrc_topology.specs.Nodes.{node_at}
-use Rattle.lrc_terms.specs.Levels.{home_of, needs_in, has_some}
+use Rattle.lrc_terms.specs.Levels.{home_of, homes_of, missing_in, needs_in, has_some}
 use Rattle.lrc_stripes.specs.Stored.{is_home_on, has_work}
-use Rattle.lrc_stripes.specs.Upgrades.{is_stripe_on, offline_count, IsFirstLostTo, IsFirstShortLostTo, is_short_lost_to}
+use Rattle.lrc_stripes.specs.Upgrades.{is_stripe_on, offline_count, misses_several, IsFirstLostTo, IsFirstShortLostTo, is_short_lost_to}
 use Rattle.lrc_terms.proofs.LevelLemmas.{has_some-false}
 use Rattle.lrc_terms.specs.declared.mode.Mode.TheVariants.{Gone}
 use Rattle.lrc_rules.specs.States.{State, has_stripe, code_of, held_by, seats_of, taken_seats, mode_of, online_at, drains_at, missing}
@@ -92,7 +92,7 @@ two-counted {X} test (x ∷ xs) a b here there other p q few =
 few-in_all : (a b g a1 b1 g1 a0 b0 g0 : ℕ) → a ≤ a1 + a0 → b ≤ b1 + b0 → g ≤ g1 + g0 → a1 ≤ 1 → b1 ≤ 1 → g1 ≤ 1 → a0 + b0 + g0 ≤ 1 → (a - 1) + (b - 1) + g ≤ 2
 few-in_all a b g a1 b1 g1 a0 b0 g0 x y z p q r few = omega (arith, x, y, z, p, q, r, few)
 
--- ---- a stripe that is not short
+-- ---- a stripe without work, with homes on at most one node that is not online
 
 module _ (nodes : List NodeInfo) (st : State) (spare : ℕ) (s : StripeNo) (seated : AreSeated nodes st) (there : has_stripe st s ≡ true)
     (idle : has_work (stored_of nodes st spare) s ≡ false) (few : offline_count (stored_of nodes st spare) s ≤ 1) where
@@ -166,31 +166,34 @@ module _ (nodes : List NodeInfo) (st : State) (spare : ℕ) (s : StripeNo) (seat
       two-counted counted nodes t.on.node v.on.node (own-number f.value t).1 (own-number g.value v).1
       (λ same. apart.faults (ap (λ (n : NodeInfo). n.fault) same)) (is-counted f t) (is-counted g v) few-counted
 
-  few-now : size_of code (missing nodes st s) ≤ 1
+  pub few-now : size_of code (missing nodes st s) ≤ 1
   few-now =
       at_most_one (λ (f : Fragment). missing nodes st s f.value) (fragments code)
       (pairs-by (λ (f g : Fragment). missing nodes st s f.value ≡ true → missing nodes st s g.value ≡ true → ⊥) (fragments code)
       (fragments-distinct code) (λ f g here also other. one-now f g other))
 
-  module _ (u : UpgradeNo) where
-    abbrev then : FragmentSet
-    then = missing nodes (with_upgrading st u) s
+-- ---- a stripe that misses at most one fragment
 
-    covered : (k : ℕ) → then k ≡ true → added nodes st u s seated k ≡ false → missing nodes st s k ≡ true
-    covered k hit miss = by (missing nodes st s k) (sym (ap (λ b. not (missing nodes st s k) && b) hit) ∙ miss) where
-      by : (b : Bool) → (not b && true) ≡ false → b ≡ true
-      by true e = refl
-      by false e = absurd (cc)
+module _ (nodes : List NodeInfo) (st : State) (s : StripeNo) (seated : AreSeated nodes st) (few-now : size_of (code_of st s) (missing nodes st s) ≤ 1) (u : UpgradeNo) where
+  abbrev then : FragmentSet
+  then = missing nodes (with_upgrading st u) s
 
-    -- so the upgrade leaves it recoverable
-    pub few-then : excess code then ≤ 2
-    few-then =
-        let new = added nodes st u s seated in
-        let now = missing nodes st s in
-        let part : (c : Class) → losses_in code c then ≤ losses_in code c new + losses_in code c now = λ c. count-parts then new now covered (members code c) in
-        let one : (c : Class) → losses_in code c new ≤ 1 = class-one code new (no_two nodes st u s seated) in
-        few-in_all _ _ _ (losses_in code A new) (losses_in code B new) (losses_in code G new) (losses_in code A now) (losses_in code B now) (losses_in code G now)
-        (part A) (part B) (part G) (one A) (one B) (one G) (subst (λ (n : ℕ). n ≤ 1) (size_of-classes code now) few-now)
+  covered : (k : ℕ) → then k ≡ true → added nodes st u s seated k ≡ false → missing nodes st s k ≡ true
+  covered k hit miss = by (missing nodes st s k) (sym (ap (λ b. not (missing nodes st s k) && b) hit) ∙ miss) where
+    by : (b : Bool) → (not b && true) ≡ false → b ≡ true
+    by true e = refl
+    by false e = absurd (cc)
+
+  -- the upgrade leaves it recoverable
+  pub few-then : excess (code_of st s) then ≤ 2
+  few-then =
+      let code = code_of st s in
+      let new = added nodes st u s seated in
+      let now = missing nodes st s in
+      let part : (c : Class) → losses_in code c then ≤ losses_in code c new + losses_in code c now = λ c. count-parts then new now covered (members code c) in
+      let one : (c : Class) → losses_in code c new ≤ 1 = class-one code new (no_two nodes st u s seated) in
+      few-in_all _ _ _ (losses_in code A new) (losses_in code B new) (losses_in code G new) (losses_in code A now) (losses_in code B now) (losses_in code G now)
+      (part A) (part B) (part G) (one A) (one B) (one G) (subst (λ (n : ℕ). n ≤ 1) (size_of-classes code now) few-now)
 
 -- ---- the stripes that are lost
 
@@ -199,16 +202,29 @@ or_false true b e = absurd (cc)
 or_false false b e = (refl, e)
 
 module _ (nodes : List NodeInfo) (st : State) (spare : ℕ) (seated : AreSeated nodes st) (u : UpgradeNo) (none : st.upgrading ≡ None) where
+  few-misses : (s : StripeNo) → misses_several (stored_of nodes st spare) s ≡ false → size_of (code_of st s) (missing nodes st s) ≤ 1
+  few-misses s few =
+      let more : nat_le 2 (size_of (code_of st s) (missing nodes st s)) ≡ false =
+      ap (λ (online : NodeNo → Bool). nat_le 2 (size_of (code_of st s) (missing_in (code_of st s) online (homes_of st.homes s)))) (sym (online-kept nodes st)) ∙ few in
+      let below = leb-false 2 (size_of (code_of st s) (missing nodes st s)) more in
+      omega (arith, below)
+
+  -- a stripe that is not short misses at most one fragment
+  few-missing : (s : StripeNo) → has_stripe st s ≡ true → upgrades.is_short (stored_of nodes st spare) s ≡ false → size_of (code_of st s) (missing nodes st s) ≤ 1
+  unfolding upgrades.is_short
+  few-missing s there e = elim (and_cases _ _ e) [
+    | inl none ↦ let miss = or_false _ _ none in few-now nodes st spare s seated there miss.1 (ltb-false _ _ miss.0)
+    | inr few ↦ few-misses s few
+  ]
+
   -- a stripe that is lost is short
   lost-short : (s : StripeNo) → upgrades.is_lost_to (stored_of nodes st spare) u s ≡ true → upgrades.is_short (stored_of nodes st spare) s ≡ true
-  unfolding upgrades.is_short
   lost-short s lost = by (upgrades.is_short (stored_of nodes st spare) s) refl where
     by : (b : Bool) → upgrades.is_short (stored_of nodes st spare) s ≡ b → upgrades.is_short (stored_of nodes st spare) s ≡ true
     by true e = e
     by false e = absurd (
         let parts = and_parts (has_stripe st s) (is_lost_to nodes st u s) (sym (lost-as nodes st u none spare s) ∙ lost) in
-        let miss = or_false _ _ e in
-        let few = few-then nodes st spare s seated parts.0 miss.1 (ltb-false _ _ miss.0) u in
+        let few = few-then nodes st s seated (few-missing s parts.0 e) u in
         let clash : true ≡ false = sym (le-leb _ _ few) ∙ not-true _ (and_parts (is_safe nodes st s) _ parts.1).1 in cc)
 
   lost-either : (s : StripeNo) → is_short_lost_to (stored_of nodes st spare) u s ≡ false → upgrades.is_lost_to (stored_of nodes st spare) u s ≡ false

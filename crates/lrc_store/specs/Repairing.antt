@@ -1,5 +1,5 @@
 -- The repair that a lease would be granted for.
-use Rattle.std.specs.Prelude.{◌≡◌, Bool, true, ◌&&◌, List, Option, Some, None, is_none, IfSome, IsTrue, IsFalse, Result, Ok, Err}
+use Rattle.std.specs.Prelude.{◌≡◌, Bool, true, ◌&&◌, List, Option, Some, None, is_none, IsTrue, IsFalse, Result, Ok, Err}
 use Rattle.std.specs.List.{Contains, AllPairs}
 use Rattle.lrc_code.specs.declared.numbers.StripeNo.{StripeNo}
 use Rattle.lrc_code.specs.declared.numbers.Fragment.{Fragment}
@@ -8,6 +8,8 @@ use Rattle.lrc_topology.specs.declared.seat.Seat.{Seat}
 use Rattle.lrc_terms.specs.Levels.{comes_first}
 use Rattle.lrc_terms.specs.Stripes.{StripeFragment}
 use Rattle.lrc_store.specs.declared.repair.Repair.{Repair}
+use Rattle.lrc_store.specs.declared.cursor.RepairCursor.{RepairCursor}
+use Rattle.lrc_store.specs.declared.cursor.RepairCursor.TheVariants.{First, At, End}
 use Rattle.lrc_store.specs.declared.store.Store.{Store}
 use Rattle.lrc_rules.specs.declared.kind.Kind.{Kind}
 use Rattle.lrc_rules.specs.declared.refusal.Refusal.{Refusal}
@@ -32,12 +34,14 @@ pub record IsPast (nodes : List NodeInfo) (st : State) (cursor : StripeNo) : Typ
   pub needed : IsTrue (needs nodes st cursor fragment)
   pub first : (p : StripeFragment) → IsGrantable nodes st p → IsFalse (comes_first (rank nodes st) p.0 cursor)
 
--- the repair cursor of the state; where there is none, nothing is known
-abbrev pub IsRepairCursor : List NodeInfo → State → Option StripeNo → Type 0
-IsRepairCursor nodes st cursor = IfSome cursor (IsPast nodes st)
+-- the repair cursor of the state: at the first stripe nothing is known, and at the end no fragment is grantable
+abbrev pub IsRepairCursor : List NodeInfo → State → RepairCursor → Type 0
+IsRepairCursor nodes st First = IsTrue true
+IsRepairCursor nodes st (At s) = IsPast nodes st s
+IsRepairCursor nodes st End = (p : StripeFragment) → ¬ (IsGrantable nodes st p)
 
 -- the store is that of a state with this repair cursor
-abbrev pub HasRepairCursor : Store → Option StripeNo → Type 0
+abbrev pub HasRepairCursor : Store → RepairCursor → Type 0
 HasRepairCursor s cursor = (st : State) × IsOf st s × IsRepairCursor s.topology st cursor
 
 -- the stripes are there, are in the order of repair, and are all that have a grantable fragment

@@ -13,9 +13,10 @@ ghost use Rattle.lrc_rules.specs.Changes.{IsAnswer, changed_by, grants_lease};
 ghost use Rattle.lrc_store.specs.Stores.{IsOf, IsTied, AreGrantsOf, AreFew, has_room};
 ghost use Rattle.lrc_store.specs.Repairing.{IsRepairCursor, HasRepairCursor};
 
+use crate::cursor::RepairCursor;
 use crate::store::Store;
 use lrc_answers::Answer;
-use lrc_code::{Code, FRAGMENTS, NARROW_FRAGMENTS, SessionNo, StripeNo};
+use lrc_code::{Code, FRAGMENTS, NARROW_FRAGMENTS, SessionNo};
 use lrc_leases::Grants;
 use lrc_rules::{Command, Entry, NodeCommand, Reply, Seat};
 
@@ -25,7 +26,7 @@ impl Store {
     pub fn reply(
         &self,
         counts: &Grants,
-        cursor: Option<StripeNo>,
+        cursor: RepairCursor,
         session: SessionNo,
         command: &Command,
     ) -> Reply
@@ -52,7 +53,7 @@ impl Store {
     pub fn answer_to(
         &self,
         counts: &Grants,
-        cursor: Option<StripeNo>,
+        cursor: RepairCursor,
         room: &mut Option<Box<[Seat; FRAGMENTS]>>,
         session: SessionNo,
         command: &Command,

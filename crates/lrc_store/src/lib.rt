@@ -6,11 +6,13 @@
 mod choice;
 mod clock;
 mod commands;
+mod cursor;
 mod decide;
 mod repair;
 mod store;
 
 pub use clock::Clock;
 pub use commands::leases::count_grant;
+pub use cursor::RepairCursor;
 pub use repair::Repair;
 pub use store::Store;

@@ -4,7 +4,6 @@ ghost use Rattle.lrc_slots.specs.Slots.{all_free};
 ghost use Rattle.lrc_slots.specs.Tables.{slots_of};
 ghost use Rattle.lrc_stripes.specs.Stored as stored;
 ghost use Rattle.lrc_stripes.specs.Tables.{stored_in};
-ghost use Rattle.lrc_leases.specs.Tables.{leased_in};
 ghost use Rattle.lrc_rules.specs.States.{State, opening, code_of};
 ghost use Rattle.lrc_rules.specs.Leases.{without_lease, without_home};
 ghost use Rattle.lrc_store.specs.Stores.{IsOf, IsTied, has_room};

@@ -1,7 +1,10 @@
 //! A session whose lease another takes over, one call after the other.
 
-use super::scenes::{Pair, Scene, stage};
-use super::{ONE, S1, S2, call, close, expect_fronts, expect_made, expect_numbers, parts};
+use super::managers::expect_out;
+use super::scenes::{Scene, stage};
+use super::{
+    ONE, S1, S2, call, close, expect_fronts, expect_made, expect_numbers, finish, parts, put, take,
+};
 use lrc_book::{Command, Entry, Kind, Lease, Refusal, Reply, Seat};
 use lrc_code::{Fragment, NodeNo, SessionNo};
 use lrc_samples::first_seats;
@@ -65,8 +68,25 @@ fn entries() -> [Entry; 7] {
     ]
 }
 
-/// Both sessions make their calls, and get the replies.
+/// Both sessions make their calls, and get the replies. The first alone does not end the manager, and comes back as it was.
 pub(super) fn take_over<N: Naming, R: Wait + Abort>(
+    rt: &R,
+    manager: Manager<N>,
+    mut sessions: Vec<Session<N>>,
+) -> Closing {
+    let mut second = take(rt, &mut sessions);
+    let mut first = take(rt, &mut sessions);
+    make_calls(rt, &manager, &mut first, &mut second);
+    put(rt, &mut sessions, first);
+    let (manager, mut sessions) = expect_out(rt, manager, sessions, 1);
+    let first = take(rt, &mut sessions);
+    expect_fronts(rt, &first, &second, (7, 3));
+    put(rt, &mut sessions, first);
+    put(rt, &mut sessions, second);
+    finish(rt, manager, sessions)
+}
+
+fn make_calls<N: Naming, R: Wait + Abort>(
     rt: &R,
     manager: &Manager<N>,
     first: &mut Session<N>,
@@ -101,7 +121,7 @@ fn expect_entries(rt: &impl Abort, closing: &Closing) {
 #[test]
 fn a_lease_is_taken_over_by_another_session(rt: HostRuntime) -> Result<(), Fail> {
     let parts = parts(rt.alloc(), 2)?;
-    let closing = stage(&rt, rt.alloc(), parts, Scene::Pair(Pair::TakeOver));
+    let closing = stage(&rt, rt.alloc(), parts, Scene::TakeOver);
     expect_entries(&rt, &closing);
     close(closing);
     Ok(())

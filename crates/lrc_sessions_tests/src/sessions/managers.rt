@@ -55,7 +55,7 @@ pub(super) fn place_in_turn<N: Naming, R: Wait + Abort>(
 }
 
 /// Expects that these sessions, `count` of them, do not end the manager, and returns all.
-fn expect_out<N: Naming, R: Wait + Abort>(
+pub(super) fn expect_out<N: Naming, R: Wait + Abort>(
     rt: &R,
     manager: Manager<N>,
     sessions: Vec<Session<N>>,

@@ -21,6 +21,8 @@ pub(super) enum Scene {
     PlaceInTurn,
     /// The only session comes back late.
     KeepOne,
+    /// One of two takes a lease over from the other, and comes back twice.
+    TakeOver,
     /// Two do this, and come back in the other order.
     Pair(Pair),
 }
@@ -36,8 +38,6 @@ pub(super) enum Pair {
     LookFromBehind,
     /// One makes the only call that the history has room for.
     MeetFullHistory,
-    /// One takes a lease over from the other.
-    TakeOver,
 }
 
 impl Pair {
@@ -54,7 +54,6 @@ impl Pair {
             Pair::LookAround => looks::look_around(rt, alloc, manager, first, second),
             Pair::LookFromBehind => looks::look_from_behind(rt, manager, first, second),
             Pair::MeetFullHistory => limits::meet_a_full_history(rt, manager, first, second),
-            Pair::TakeOver => leases::take_over(rt, manager, first, second),
         }
     }
 }
@@ -88,6 +87,7 @@ fn play<N: Naming + Send + Sync, R: Threads + Wait + Abort + Sync>(
     match scene {
         Scene::PlaceInTurn => managers::place_in_turn(rt, manager, sessions),
         Scene::KeepOne => managers::keep_one(rt, manager, sessions),
+        Scene::TakeOver => leases::take_over(rt, manager, sessions),
         Scene::Pair(pair) => by_two(rt, alloc, manager, sessions, pair),
     }
 }

@@ -1,20 +1,40 @@
 //! Runs of calls on a slot table and on a plain table that must agree after each call.
 
-ghost use Rattle.std.specs.Prelude.{◌≡◌, ◌≤◌};
+ghost use Rattle.std.specs.Prelude.{◌≡◌};
 ghost use Rattle.lrc_slots.specs.Tables.{slots_of};
 
 use crate::slots::bars::Bars;
 use crate::slots::plain_table::PlainTable;
 use lrc_code::{FaultNo, NodeNo, UpgradeNo};
-use lrc_samples::{mixed_nodes, mixed_number};
+use lrc_samples::{mixed_nodes, mixed_number, twenty_nodes};
 use lrc_slots::{OpenNode, SlotTable};
-use lrc_topology::Topology;
+use lrc_topology::{Topology, TopologyError};
+use std::alloc::Global;
 use std::process::Abort;
 
-/// Returns the number of the node at a position.
-fn number_at(place: u32) -> NodeNo {
-    NodeNo {
-        value: mixed_number(place),
+/// The nodes of a run.
+#[derive(Clone, Copy)]
+enum Store {
+    Twenty,
+    Mixed(u32),
+}
+
+impl Store {
+    fn nodes(self, alloc: Global) -> Result<Topology, TopologyError> {
+        match self {
+            Store::Twenty => twenty_nodes(alloc),
+            Store::Mixed(count) => mixed_nodes(alloc, count),
+        }
+    }
+
+    /// Returns the number of a node; each has its turn as `state` goes through the sequence below.
+    fn number_by(self, state: u32) -> NodeNo {
+        let value = match self {
+            Store::Twenty => (state % 20) as u16,
+            Store::Mixed(0) => 0,
+            Store::Mixed(count) => mixed_number(state % count),
+        };
+        NodeNo { value }
     }
 }
 
@@ -154,19 +174,18 @@ fn call(
 
 /// Makes 2,000 calls of each table, and returns after how many of them both agreed.
 fn calls_alike(
+    store: Store,
     topology: &Topology,
     table: &mut SlotTable,
     plain: &mut PlainTable,
-    count: u32,
 ) -> u32
-    requires nodes { (slots_of table.old).nodes ≡ topology.now }
-    requires some { 1 ≤ count }
+    requires { (slots_of table.old).nodes ≡ topology.now }
 {
     let mut state = 1;
     let mut alike = 0;
     for _ in 0..2000u32 {
         state = after(state);
-        let node = number_at(state % count);
+        let node = store.number_by(state);
         let bars = bars_of(table, state);
         call(topology, table, plain, &bars, node, state);
         if choose_alike(table, plain, &bars) && loads_alike(topology, table, plain, node) {
@@ -176,17 +195,17 @@ fn calls_alike(
     alike
 }
 
-/// Expects that both agree after each call, over the first `count` mixed nodes.
-fn expect_alike(rt: &(impl AllocGlobal + Abort), count: u32) {
-    let topology = mixed_nodes(rt.alloc(), count).expect(rt, "nodes");
+/// Expects that both agree after each call.
+fn expect_alike(rt: &(impl AllocGlobal + Abort), store: Store) {
+    let topology = store.nodes(rt.alloc()).expect(rt, "nodes");
     let mut table = SlotTable::new(rt.alloc(), &topology).expect(rt, "memory");
     let mut plain = PlainTable::new(rt.alloc(), &topology).expect(rt, "memory");
-    assert!(rt; count >= 1);
-    assert!(rt; calls_alike(&topology, &mut table, &mut plain, count) == 2000);
+    assert!(rt; calls_alike(store, &topology, &mut table, &mut plain) == 2000);
 }
 
 #[test]
 fn nodes_are_chosen_as_by_a_plain_search(rt: HostRuntime) {
-    expect_alike(&rt, 20);
-    expect_alike(&rt, 512);
+    expect_alike(&rt, Store::Twenty);
+    expect_alike(&rt, Store::Mixed(20));
+    expect_alike(&rt, Store::Mixed(512));
 }

@@ -14,6 +14,7 @@ ghost use Rattle.lrc_answers.specs.Answers.{told};
 ghost use Rattle.lrc_store.specs.Stores.{IsOf, IsTied, AreGrantsOf, AreFew};
 ghost use Rattle.lrc_store.specs.Repairing.{is_waiting, fragment_of, IsRepair, IsRepairCursor, HasRepairCursor, HaveGrantable};
 
+use crate::cursor::RepairCursor;
 use crate::repair::Repair;
 use crate::store::Store;
 use lrc_answers::Answer;
@@ -26,7 +27,7 @@ impl Store {
     pub(crate) fn next_reply(
         &self,
         counts: &Grants,
-        cursor: Option<StripeNo>,
+        cursor: RepairCursor,
         session: SessionNo,
     ) -> Answer
         requires few { AreFew counts.now }
@@ -34,6 +35,9 @@ impl Store {
         ensures { (st : State) (past : List Entry) → IsOf st self.now → AreGrantsOf past counts.now → IsRepairCursor self.now.topology st cursor
             → told result ≡ (next_outcome self.now.topology past st session).0 }
     {
+        if let RepairCursor::End = cursor {
+            return Answer::Idle;
+        }
         if !self.stripes.has_work() {
             return Answer::Idle;
         }
@@ -45,7 +49,7 @@ impl Store {
     fn next_reply_with_work(
         &self,
         counts: &Grants,
-        cursor: Option<StripeNo>,
+        cursor: RepairCursor,
         session: SessionNo,
     ) -> Answer
         requires few { AreFew counts.now }
@@ -60,7 +64,7 @@ impl Store {
     }
 
     /// Returns the first repair, in the order of repair, whose lease would be granted.
-    fn next_repair(&self, cursor: Option<StripeNo>) -> Option<Repair>
+    fn next_repair(&self, cursor: RepairCursor) -> Option<Repair>
         requires { HasRepairCursor self.now cursor }
         ensures first { (st : State) → IsOf st self.now → IsRepairCursor self.now.topology st cursor → option_map fragment_of result ≡ next_of self.now.topology st }
         ensures repair { IfSome result (λ r. (st : State) → IsOf st self.now → IsRepair self.now.topology st r) }
@@ -77,14 +81,14 @@ impl Store {
     }
 
     /// Returns the stripes with work from the cursor on, in the order of repair; all of them if there is no cursor.
-    fn work_from(&self, cursor: Option<StripeNo>) -> Work<'_>
+    fn work_from(&self, cursor: RepairCursor) -> Work<'_>
         requires { HasRepairCursor self.now cursor }
         ensures there { All (λ s. IsTrue ((stored_in self.now.stripes).stripes s)) result }
         ensures all { (st : State) → IsOf st self.now → IsRepairCursor self.now.topology st cursor → HaveGrantable self.now.topology st result }
     {
         match cursor {
-            Some(first) => self.stripes.work_from(first),
-            None => self.stripes.work(),
+            RepairCursor::At(first) => self.stripes.work_from(first),
+            RepairCursor::First | RepairCursor::End => self.stripes.work(),
         }
     }
 

@@ -5,6 +5,8 @@ use Rattle.lrc_stripes.specs.Tables.{stored_in}
 use Rattle.lrc_rules.specs.Leases.{next_answer, next_outcome}
 use Rattle.lrc_store.proofs.store.Store.next_reply.Goals as goal
 use Rattle.lrc_store.proofs.WorkLemmas.{idle-next}
+use Rattle.lrc_store.specs.Repairing.{IsRepairCursor}
+use Rattle.lrc_rules.proofs.MostUrgentLemmas.{none-idle}
 
 pub returns-then-not-has_work : goal.returns-then-not-has_work
 unfolding next_outcome
@@ -15,3 +17,8 @@ returns-then-not-has_work c = λ st past kept counted ahead.
     (let some : c.has_work.result ≡ true = c.has_work.ensures.1 (s, subst (λ (t : Stored). has_work t s ≡ true) (sym kept.stripes_is) has) in
     let both : true ≡ false = sym some ∙ c.if-not-has_work.true in cc)) in
     ap (λ (o : Option StripeFragment). (next_answer nodes past st c.args.session o).0) none
+
+pub returns-in-End : goal.returns-in-End
+returns-in-End c = λ st past kept counted ahead.
+    let nodes = c.args.self.now.topology in
+    sym (none-idle nodes past st c.args.session (subst (IsRepairCursor nodes st) c.in-End.is ahead))

@@ -11,28 +11,28 @@ pub work_from-requires : goal.work_from-requires
 work_from-requires c =
     let (st, kept, ahead) = c.requires in
     let nodes = c.args.self.now.topology in
-    let past = subst (IsRepairCursor nodes st) c.in-Some.is ahead in
-    subst (λ (t : Stored). IsTrue (has_work t c.in-Some.first)) (sym kept.stripes_is) (past-works nodes st (stored_in c.args.self.now.stripes).spare c.in-Some.first past)
+    let past = subst (IsRepairCursor nodes st) c.in-At.is ahead in
+    subst (λ (t : Stored). IsTrue (has_work t c.in-At.first)) (sym kept.stripes_is) (past-works nodes st (stored_in c.args.self.now.stripes).spare c.in-At.first past)
 
-pub returns-in-Some-clause-there : goal.returns-in-Some-clause-there
-returns-in-Some-clause-there c =
+pub returns-in-At-clause-there : goal.returns-in-At-clause-there
+returns-in-At-clause-there c =
     let t = stored_in c.args.self.now.stripes in
     All-members (λ s. IsTrue (t.stripes s)) c.work_from.result (λ s here.
     (and_parts (t.stripes s) _ (and_parts (has_work t s) _ ((c.work_from.ensures.each s).0 here)).0).0)
 
-pub returns-in-Some-clause-all : goal.returns-in-Some-clause-all
-returns-in-Some-clause-all c = λ st kept ahead.
+pub returns-in-At-clause-all : goal.returns-in-At-clause-all
+returns-in-At-clause-all c = λ st kept ahead.
     let nodes = c.args.self.now.topology in
-    let first = c.in-Some.first in
-    grantable-from nodes st (stored_in c.args.self.now.stripes).spare first c.work_from.result (subst (IsRepairCursor nodes st) c.in-Some.is ahead)
+    let first = c.in-At.first in
+    grantable-from nodes st (stored_in c.args.self.now.stripes).spare first c.work_from.result (subst (IsRepairCursor nodes st) c.in-At.is ahead)
     (subst (λ (t : Stored). AreWorkFrom t first c.work_from.result) kept.stripes_is c.work_from.ensures)
 
-pub returns-in-None-clause-there : goal.returns-in-None-clause-there
-returns-in-None-clause-there c =
-    let t = stored_in c.args.self.now.stripes in
-    All-members (λ s. IsTrue (t.stripes s)) c.work.result (λ s here. (and_parts (t.stripes s) _ ((c.work.ensures.each s).0 here)).0)
-
-pub returns-in-None-clause-all : goal.returns-in-None-clause-all
-returns-in-None-clause-all c = λ st kept ahead.
-    grantable-all c.args.self.now.topology st (stored_in c.args.self.now.stripes).spare c.work.result
-    (subst (λ (t : Stored). AreWork t c.work.result) kept.stripes_is c.work.ensures)
+pub returns-in-First : goal.returns-in-First
+returns-in-First c = record {
+  there =
+      let t = stored_in c.args.self.now.stripes in
+      All-members (λ s. IsTrue (t.stripes s)) c.work.result (λ s here. (and_parts (t.stripes s) _ ((c.work.ensures.each s).0 here)).0);
+  all = λ st kept ahead.
+      grantable-all c.args.self.now.topology st (stored_in c.args.self.now.stripes).spare c.work.result
+      (subst (λ (t : Stored). AreWork t c.work.result) kept.stripes_is c.work.ensures);
+}
