@@ -16,7 +16,8 @@
 //   would own one book. It may be moved as a whole.
 // - One call at a time on one handle, looks included. A lock, or a thread's start or join, orders the calls of several
 //   threads. Two handles share nothing.
-// - No pointer is null, except that of a text, of entries, of nodes or of rows if its length is 0; this is tested, not proved.
+// - No pointer is null, except that of a text, of bytes, of entries, of nodes or of rows if its length is 0; this is tested, not
+//   proved.
 //   Each other pointer is aligned and points to initialized memory of the whole struct, also for results. What a call writes
 //   overlaps nothing else that it is given. What it reads does not change while it runs.
 // - malloc, realloc and free belong to one allocator, which aligns a block to every power of two up to 16 that divides its
@@ -38,7 +39,7 @@ extern "C" {
 // The version of the interface, which rises with every change of what this header declares: with each function, struct, field
 // and number that is new or means something else. lrc_embed_version() returns that of the library. Compare them at the start,
 // and go on only if they are the same. An lrc_entry has one layout in all versions, so that saved ones stay readable.
-#define LRC_EMBED_VERSION 2
+#define LRC_EMBED_VERSION 3
 
 // The version of the rules: of what each command returns and changes. lrc_embed_rules_version() returns that of the library.
 // A log replays alike in all libraries of one version of the rules. In those of another one a reply may differ, and an image
@@ -75,6 +76,9 @@ enum lrc_status {
     LRC_DIFFERENT = 8,     // lrc_embed_replay: a call has another reply than its entry
     LRC_MOVED = 9,         // lrc_embed_call_at: the store has made more or fewer entries than expected
     LRC_FORGOTTEN = 10,    // lrc_embed_entries: the place is before the history, so what stands there is forgotten
+    LRC_UNDETERMINED = 11, // a recipe: what is not missing does not determine the fragment
+    LRC_MISCOUNTED = 12,   // lrc_embed_encode, lrc_embed_rebuild: the buffers are not as many as the code's fragments
+    LRC_UNEVEN = 13,       // the same: the buffers are not all of one length
 
     // lrc_embed_open and lrc_embed_open_image: why the text is not a list of nodes
     LRC_SYNTAX = 16,            // not TOML 1.1 in UTF-8
@@ -335,6 +339,27 @@ typedef struct {
     lrc_level after;  // its level then
 } lrc_outlook;
 
+// How a fragment of a stripe is rebuilt: at each position of its bytes it is the sum of the stripe's fragments, each times its
+// coefficient. docs/RULES.md has the field: it is that of ISA-L. A coefficient is 0 where the fragment is not read. A fragment
+// that is not missing is copied: its own coefficient is 1, and the others are 0.
+typedef struct {
+    uint8_t code;     // an lrc_code
+    uint8_t fragment; // the one that is rebuilt
+    uint8_t reserved[6];
+    uint8_t coefficients[LRC_FRAGMENTS]; // by fragment; 0 where the stripe has no such fragment
+} lrc_recipe;
+
+// Bytes that are read, and bytes that are written. The pointer may be null if the length is 0.
+typedef struct {
+    const uint8_t *at;
+    size_t length;
+} lrc_bytes;
+
+typedef struct {
+    uint8_t *at;
+    size_t length;
+} lrc_buffer;
+
 // The layout that the library has of each struct: its size and alignment, and the place of each field. A compiler that has
 // another one, or has it by a `#pragma pack` around this header, is refused here. Before C11 and C++11 nothing is checked.
 #if defined(__cplusplus) && __cplusplus >= 201103L
@@ -441,6 +466,17 @@ LRC_EMBED_FIELD(lrc_outlook, leases_ended, 8)
 LRC_EMBED_FIELD(lrc_outlook, reserved, 9)
 LRC_EMBED_FIELD(lrc_outlook, before, 12)
 LRC_EMBED_FIELD(lrc_outlook, after, 16)
+LRC_EMBED_STRUCT(lrc_recipe, 24, 1)
+LRC_EMBED_FIELD(lrc_recipe, code, 0)
+LRC_EMBED_FIELD(lrc_recipe, fragment, 1)
+LRC_EMBED_FIELD(lrc_recipe, reserved, 2)
+LRC_EMBED_FIELD(lrc_recipe, coefficients, 8)
+LRC_EMBED_STRUCT(lrc_bytes, 16, 8)
+LRC_EMBED_FIELD(lrc_bytes, at, 0)
+LRC_EMBED_FIELD(lrc_bytes, length, 8)
+LRC_EMBED_STRUCT(lrc_buffer, 16, 8)
+LRC_EMBED_FIELD(lrc_buffer, at, 0)
+LRC_EMBED_FIELD(lrc_buffer, length, 8)
 #undef LRC_EMBED_STRUCT
 #undef LRC_EMBED_FIELD
 
@@ -503,6 +539,11 @@ uint32_t lrc_embed_lease(lrc_handle *handle, uint16_t stripe, uint8_t fragment, 
 // How the fragment is rebuilt, if it needs a lease, whether or not it has one: what the next grant of it has as `repair` and
 // `sources`. It is LRC_GLOBAL too where the stripe is not recoverable. UNKNOWN if the fragment needs no lease.
 uint32_t lrc_embed_repair(lrc_handle *handle, uint16_t stripe, uint8_t fragment, lrc_repair_plan *plan);
+// How the fragment of a live lease is rebuilt from what is not missing now, where lrc_embed_missing tells what is. If the
+// fragment itself is not missing, which is a move, it is copied. Another call may get another recipe, if fragments went
+// missing or came back meanwhile: a worker that cannot read one of its sources asks again. UNKNOWN if there is no such stripe,
+// or the fragment has no live lease; UNDETERMINED if what is not missing does not determine it.
+uint32_t lrc_embed_recipe(lrc_handle *handle, uint16_t stripe, uint8_t fragment, lrc_recipe *recipe);
 // DONE, IS_CLOSED, or UNKNOWN if there is no such node. The load counts homes and targets of leases.
 uint32_t lrc_embed_load(lrc_handle *handle, uint16_t node, uint32_t *load);
 uint32_t lrc_embed_mode(lrc_handle *handle, uint16_t node, lrc_mode *mode);
@@ -569,6 +610,28 @@ uint32_t lrc_embed_forecast(lrc_handle *handle, uint8_t outage, const uint16_t *
 uint32_t lrc_embed_status_name(uint32_t status, uint8_t *text, size_t room, size_t *length);
 uint32_t lrc_embed_reply_name(uint8_t kind, uint8_t *text, size_t room, size_t *length);
 uint32_t lrc_embed_refusal_name(uint8_t refusal, uint8_t *text, size_t room, size_t *length);
+
+// The bytes of a stripe. These functions take no handle, and no memory is requested: any threads may call them at once.
+// docs/CODING.md says how a worker uses them.
+// The recipe of a fragment of a stripe of a code, where some are missing; fragment f is bit f of `missing`. A fragment whose
+// bit is not set is copied. Bits for which the code has no fragment mean nothing. DONE; OUT_OF_RANGE if there is no such code,
+// or it has no such fragment; or UNDETERMINED if what is not missing does not determine it. It reads the fragments of the local
+// group if no other of it is missing, else 12, or 6 of a narrow stripe: no fewer determine it.
+uint32_t lrc_embed_recipe_of(uint8_t code, uint16_t missing, uint8_t fragment, lrc_recipe *recipe);
+// The generator matrix of a code, row by row, with a row for each fragment and a column for each data fragment: 16 times 12
+// bytes, or 10 times 6. So ISA-L takes it, which encodes with the rows from the twelfth, or the sixth, on. DONE, with `*length`
+// bytes; OUT_OF_RANGE if there is no such code; or SHORT if there is room for less, and then only `length` is written.
+uint32_t lrc_embed_matrix(uint8_t code, uint8_t *rows, size_t room, size_t *length);
+// Writes the four parities of a stripe, in order. `data_fragments` has the data fragments in order, 12 or 6, and all buffers
+// have one length, which may be 0. DONE; OUT_OF_RANGE if there is no such code; MISCOUNTED or UNEVEN, and then nothing is
+// written. The array of buffers stays as it is. ISA-L does the same faster.
+uint32_t lrc_embed_encode(uint8_t code, const lrc_bytes *data_fragments, size_t data_fragments_count,
+                          lrc_buffer *parities, size_t parities_count);
+// Writes what a recipe makes of the fragments of a stripe, which stand by number: as many as the code has, 16 or 10. Those
+// whose coefficient is not 0 are as long as `rebuilt`. The others are not read, and may be empty. DONE; OUT_OF_RANGE if the
+// recipe's code is none; MISCOUNTED or UNEVEN, and then nothing is written.
+uint32_t lrc_embed_rebuild(const lrc_recipe *recipe, const lrc_bytes *fragments, size_t fragments_count, uint8_t *rebuilt,
+                           size_t length);
 
 // Closes the handle and frees its book. A closed handle stays closed. Always DONE.
 uint32_t lrc_embed_close(lrc_handle *handle);

@@ -1,5 +1,6 @@
 pub mod LookLemmas
 pub mod OfLemmas
+pub mod RecipeLemmas
 pub mod ReplayLemmas
 pub mod Rows
 pub mod Values

@@ -20,3 +20,6 @@ pub mod Calls
 pub mod Walks
 pub mod Names
 pub mod Replays
+pub mod Recipes
+pub mod Coded
+pub mod Leased

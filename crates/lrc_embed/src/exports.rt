@@ -3,6 +3,7 @@
 //! which tells that a buffer is too short, the room that is needed is written, and `lrc_embed_forecast` writes `safe` too.
 
 mod call;
+mod coding;
 mod forecast;
 mod forget;
 mod history;
@@ -12,6 +13,8 @@ mod names;
 mod open;
 mod open_image;
 mod place;
+mod recipe;
+mod recipes;
 mod replay;
 mod risk;
 mod walks;

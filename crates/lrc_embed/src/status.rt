@@ -22,6 +22,12 @@ pub(crate) const DIFFERENT: u32 = 8;
 pub(crate) const MOVED: u32 = 9;
 /// The entries at this place are forgotten, or were never in this book.
 pub(crate) const FORGOTTEN: u32 = 10;
+/// What is not missing does not determine the fragment.
+pub(crate) const UNDETERMINED: u32 = 11;
+/// The buffers are not as many as the fragments of the code.
+pub(crate) const MISCOUNTED: u32 = 12;
+/// The buffers are not all of one length.
+pub(crate) const UNEVEN: u32 = 13;
 /// The text is not TOML 1.1 in UTF-8.
 pub(crate) const SYNTAX: u32 = 16;
 /// The text lists no nodes.

@@ -1,4 +1,5 @@
 pub use Rattle.lrc_code.specs.Losses
+pub use Rattle.lrc_field.specs.Stripes
 pub use Rattle.lrc_terms.specs.Levels
 pub use Rattle.lrc_rules.specs.States
 pub use Rattle.lrc_rules.specs.Repairs

@@ -1,5 +1,5 @@
 -- What `lrcman show` prints of a state: one table of comma-separated fields.
-use Rattle.std.specs.Prelude.{ℕ, Bool, true, false, if◌then◌else◌, nat_eq, List, [], ◌∷◌, ◌++◌, codes, decimal, length, map, filter, flat_map, count_by, sum_by, Option, Some, None, option_to_list}
+use Rattle.std.specs.Prelude.{ℕ, Bool, if◌then◌else◌, List, [], ◌∷◌, ◌++◌, codes, decimal, length, map, filter, flat_map, count_by, sum_by, Option, Some, None, option_to_list}
 use Rattle.lrc_code.specs.declared.codes.Code.{Code}
 use Rattle.lrc_code.specs.declared.codes.Code.TheVariants.{Wide}
 use Rattle.lrc_code.specs.declared.numbers.StripeNo.{StripeNo}
@@ -9,6 +9,7 @@ use Rattle.lrc_code.specs.declared.numbers.Fragment.{Fragment}
 use Rattle.lrc_code.specs.Numbers.{same_node}
 use Rattle.lrc_code.specs.Codes.{fragments, has_fragment, code_name}
 use Rattle.lrc_code.specs.Losses.{FragmentSet, margin_of, bits_of, bits_set, size_of}
+use Rattle.lrc_field.specs.Stripes.{data_count}
 use Rattle.lrc_topology.specs.declared.NodeInfo.{NodeInfo}
 use Rattle.lrc_topology.specs.declared.seat.Seat.{Seat}
 use Rattle.lrc_terms.specs.declared.lease.Lease.{Lease}
@@ -19,7 +20,7 @@ use Rattle.lrc_terms.specs.Modes.{is_active, is_draining, is_gone}
 use Rattle.lrc_rules.specs.declared.kind.Kind.{Kind}
 use Rattle.lrc_rules.specs.declared.kind.Kind.TheVariants.{Local, Local3, Global, Move}
 use Rattle.lrc_rules.specs.States.{State, code_of, lease_of, load, mode_of, is_down, is_upgrading, is_online, homeless, missing, level}
-use Rattle.lrc_rules.specs.Repairs.{needs, kind, is_beyond_repair}
+use Rattle.lrc_rules.specs.Repairs.{needs, kind, is_safe, is_beyond_repair}
 use Rattle.lrc_rules.specs.Urgency.{work, is_grantable}
 use Rattle.lrc_book.specs.Looks.{stripes_of, homes_on}
 use Rattle.lrc_forecast.specs.declared.outlook.Outlook.{Outlook}
@@ -130,6 +131,19 @@ sources_of (Local3 sources) = sources
 sources_of Global = []
 sources_of Move = []
 
+-- how many fragments are read for a repair of this kind: the sources of a local one; for a global one as many as there are data
+-- fragments, if the missing fragments are recoverable; for a move the fragment itself
+abbrev pub reads : Code → Bool → Kind → Option ℕ
+reads code safe (Local sources) = Some (length sources)
+reads code safe (Local3 sources) = Some (length sources)
+reads code safe Global = if safe then Some (data_count code) else None
+reads code safe Move = Some 1
+
+-- this number, or nothing
+abbrev pub reads_field : Option ℕ → List ℕ
+reads_field (Some count) = decimal count
+reads_field None = []
+
 -- where the repair of a fragment without a lease stands: a lease would be granted; too many fragments of the stripe are missing; or
 -- no node is lawful for the fragment
 abbrev pub unleased_word : List NodeInfo → State → StripeNo → Fragment → List ℕ
@@ -144,7 +158,8 @@ standing_fields nodes st s f None = unleased_word nodes st s f ∷ [] ∷ [] ∷
 -- the row of a fragment that needs a lease
 abbrev pub work_row : List NodeInfo → State → StripeNo → Fragment → List ℕ
 work_row nodes st s f =
-    row_line (decimal s.value ∷ decimal f.value ∷ kind_word (kind nodes st s f) ∷ fragments_field (sources_of (kind nodes st s f)) ∷ standing_fields nodes st s f (lease_of st s f))
+    row_line (decimal s.value ∷ decimal f.value ∷ kind_word (kind nodes st s f) ∷ fragments_field (sources_of (kind nodes st s f))
+    ∷ reads_field (reads (code_of st s) (is_safe nodes st s) (kind nodes st s f)) ∷ standing_fields nodes st s f (lease_of st s f))
 
 -- the rows of a stripe
 abbrev pub work_rows : List NodeInfo → State → StripeNo → List ℕ
@@ -152,7 +167,7 @@ work_rows nodes st s = flat_map (work_row nodes st s) (filter (needs nodes st s)
 
 -- a row for each fragment that needs a lease, in the order of repair
 abbrev pub work_table : List NodeInfo → State → List ℕ
-work_table nodes st = codes "stripe,fragment,kind,sources,standing,holder,epoch\n" ++ flat_map (work_rows nodes st) (work nodes st)
+work_table nodes st = codes "stripe,fragment,kind,sources,reads,standing,holder,epoch\n" ++ flat_map (work_rows nodes st) (work nodes st)
 
 -- ---- status
 

@@ -2,15 +2,17 @@
 
 ghost use Rattle.std.specs.Prelude.{◌≡◌, ◌++◌, if◌then◌else◌, [], codes, decimal, flat_map, true, Some, string_bytes, OnOk, IfErr};
 ghost use Rattle.lrc_code.specs.declared.fault.Fault.TheVariants as fault;
-ghost use Rattle.lrc_rules.specs.States.{has_stripe, lease_of};
+ghost use Rattle.lrc_field.specs.Stripes.{data_count};
+ghost use Rattle.lrc_rules.specs.States.{has_stripe, code_of, lease_of};
 ghost use Rattle.lrc_rules.specs.Repairs.{is_global, is_safe};
 ghost use Rattle.lrc_book.specs.Books.{state_of};
 ghost use Rattle.lrc_book.specs.Looks.{kind_shown};
-ghost use Rattle.lrc_show.specs.Shown.{kind_word, sources_of, unleased_word, standing_fields, work_row, work_rows, work_table};
+ghost use Rattle.lrc_show.specs.Shown.{kind_word, sources_of, reads, reads_field, unleased_word, standing_fields, work_row, work_rows, work_table};
 
 use crate::words::push_fragments;
 use lrc_book::{Book, Kind};
 use lrc_code::{Fault, Fragment, StripeNo};
+use lrc_field::data_count;
 use std::alloc::{AllocError, Global};
 
 /// Adds the table of fragments that need a lease.
@@ -19,7 +21,7 @@ pub(crate) fn push_work(out: &mut String, alloc: Global, book: &Book) -> Result<
     ensures err { IfErr result (λ e. e ≡ fault.OutOfMemory) }
 {
     let stripes = book.work(alloc)?;
-    out.push_str("stripe,fragment,kind,sources,standing,holder,epoch\n")?;
+    out.push_str("stripe,fragment,kind,sources,reads,standing,holder,epoch\n")?;
     for stripe in stripes.as_slice() {
         push_stripe_work(out, book, *stripe)?;
     }
@@ -51,6 +53,7 @@ fn push_fragment_work(
 {
     push_head(out, stripe, fragment, kind)?;
     push_fragments(out, sources_of(kind))?;
+    push_reads(out, reads_of(book, stripe, kind))?;
     push_standing(out, book, stripe, fragment, kind)?;
     out.push_str("\n")?;
     Ok(())
@@ -69,6 +72,16 @@ fn push_head(
     let fragment_number = fragment.value;
     let word = kind_word(kind);
     write!(out, "{stripe_number},{fragment_number},{word},")
+}
+
+/// Adds the field that tells how many fragments are read, with a comma before it.
+fn push_reads(out: &mut String, reads: Option<usize>) -> Result<(), AllocError>
+    ensures { OnOk result (string_bytes out.new ≡ string_bytes out.old ++ (codes "," ++ reads_field reads)) }
+{
+    match reads {
+        Some(count) => write!(out, ",{count}"),
+        None => out.push_str(","),
+    }
 }
 
 /// Adds the fields that tell where the repair of a fragment stands.
@@ -116,6 +129,27 @@ fn sources_of(kind: &Kind) -> &[Fragment]
         Kind::Local3(sources) => sources.as_slice(),
         Kind::Global | Kind::Move => &[],
     }
+}
+
+/// How many fragments are read for a repair of this kind, or none where what is not missing does not determine the fragment.
+fn reads_of(book: &Book, stripe: StripeNo, kind: &Kind) -> Option<usize>
+    requires { has_stripe (state_of book.now) stripe ≡ true }
+    ensures { result ≡ reads (code_of (state_of book.now) stripe) (is_safe book.now.nodes (state_of book.now) stripe) kind.now }
+{
+    match kind {
+        Kind::Local(_) | Kind::Local3(_) => Some(sources_of(kind).len()),
+        Kind::Global if is_recoverable(book, stripe) => Some(data_count_of(book, stripe)),
+        Kind::Global => None,
+        Kind::Move => Some(1),
+    }
+}
+
+/// The number of data fragments of a stripe.
+fn data_count_of(book: &Book, stripe: StripeNo) -> usize
+    requires { has_stripe (state_of book.now) stripe ≡ true }
+    ensures { result ≡ data_count (code_of (state_of book.now) stripe) }
+{
+    usize::from(data_count(book.code(stripe).unwrap()))
 }
 
 /// The word for where the repair of a fragment stands that has no lease.

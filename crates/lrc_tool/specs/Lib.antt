@@ -1,4 +1,6 @@
 pub use Rattle.lrc_text.specs.Masks
+pub use Rattle.lrc_coding.specs.Told
+pub use Rattle.lrc_coding.specs.Answers
 pub use Rattle.lrc_streams.specs.Streams
 pub use Rattle.lrc_refusals.specs.Refusals
 pub use Rattle.lrc_outputs.specs.RefusedInputs
@@ -8,3 +10,4 @@ pub use Rattle.lrc_outputs.specs.Sequels
 pub mod Apart
 pub mod Sinks
 pub mod Recoveries
+pub mod Coding

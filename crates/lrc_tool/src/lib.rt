@@ -1,14 +1,16 @@
-//! The functions of the program: running, going on, checking and recovering, from bytes to bytes.
+//! The functions of the program: running, going on, checking, recovering and rebuilding, from bytes to bytes.
 #![tactic(auto)]
 
 mod apart;
 mod checking;
+mod coding;
 mod program;
 mod recovery;
 mod sequel;
 
 pub use apart::ask;
 pub use checking::check;
+pub use coding::{matrix, recipe};
 pub use lrc_forecast::Outage;
 pub use lrc_groups::Named;
 pub use lrc_outputs::{Goal, Status};

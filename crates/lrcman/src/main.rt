@@ -12,9 +12,10 @@ mod stop;
 use crate::named::parse_named;
 use crate::stop::Stop;
 use clap::{Arg, ArgAction, ArgMatches, Command};
+use lrc_code::Code;
 use lrc_tool::{
-    Goal, Named, Outage, Plain, RunFault, Status, View, ask, check, go_on, recover, recover_narrow,
-    run,
+    Goal, Named, Outage, Plain, RunFault, Status, View, ask, check, go_on, matrix, recipe, recover,
+    recover_narrow, run,
 };
 use std::alloc::{AllocError, Global};
 use std::process::ExitCode;
@@ -33,6 +34,15 @@ enum Request<'a> {
     Forecast(Outage, Vec<Named>),
     Recover { mask: &'a str },
     Recover6 { mask: &'a str },
+    Recipe(Code, RecipeWords<'a>),
+    Matrix(Code),
+}
+
+/// The words that ask for a recipe.
+#[derive(Clone, Copy)]
+struct RecipeWords<'a> {
+    mask: &'a str,
+    fragment: &'a str,
 }
 
 /// The command lines that the program takes. Each step hands the only command on, so that none is dropped between.
@@ -41,11 +51,20 @@ fn command_line<'a>(alloc: Global) -> Result<Command<'a>, AllocError> {
     let command = command.subcommand(Command::new(alloc, "check"))?;
     let command = command.subcommand(Command::new(alloc, "image"))?;
     let command = command.subcommand(Command::new(alloc, "resume"))?;
-    let command = with_one(command, of_word(alloc, "recover", "mask"))?;
-    let command = with_one(command, of_word(alloc, "recover6", "mask"))?;
     let command = with_one(command, of_word(alloc, "show", "what"))?;
     let command = with_one(command, of_words(alloc, "may-stop", "nodes"))?;
-    with_one(command, of_words(alloc, "may-lose", "nodes"))
+    let command = with_one(command, of_words(alloc, "may-lose", "nodes"))?;
+    with_codes(alloc, command)
+}
+
+/// Adds the command lines that ask about a code, and read no input.
+fn with_codes<'a>(alloc: Global, command: Command<'a>) -> Result<Command<'a>, AllocError> {
+    let command = with_one(command, of_word(alloc, "recover", "mask"))?;
+    let command = with_one(command, of_word(alloc, "recover6", "mask"))?;
+    let command = with_one(command, of_two(alloc, "recipe"))?;
+    let command = with_one(command, of_two(alloc, "recipe6"))?;
+    let command = command.subcommand(Command::new(alloc, "matrix"))?;
+    command.subcommand(Command::new(alloc, "matrix6"))
 }
 
 fn with_one<'a>(
@@ -70,6 +89,14 @@ fn of_word<'a>(alloc: Global, word: &'a str, name: &'a str) -> Result<Command<'a
     Command::new(alloc, word).arg(argument)
 }
 
+/// The command line of a word, a mask and a fragment.
+fn of_two<'a>(alloc: Global, word: &'a str) -> Result<Command<'a>, AllocError> {
+    let fragment = Arg::new(alloc, "fragment")
+        .required(true)
+        .action(ArgAction::Set);
+    of_word(alloc, word, "mask")?.arg(fragment)
+}
+
 fn parse_request<'a>(alloc: Global, words: &'a [String]) -> Result<Request<'a>, Stop> {
     let matches = command_line(alloc)?.try_get_matches_from(words)?;
     request_in(alloc, &matches)
@@ -89,6 +116,10 @@ fn request_in<'a>(alloc: Global, matches: &ArgMatches<'a>) -> Result<Request<'a>
         "recover6" => Ok(Request::Recover6 {
             mask: mask_in(found)?,
         }),
+        "recipe" => Ok(Request::Recipe(Code::Wide, words_in(found)?)),
+        "recipe6" => Ok(Request::Recipe(Code::Narrow, words_in(found)?)),
+        "matrix" => Ok(Request::Matrix(Code::Wide)),
+        "matrix6" => Ok(Request::Matrix(Code::Narrow)),
         "show" => Ok(Request::Show(view_in(found)?)),
         "may-stop" => Ok(Request::Forecast(Outage::Stop, named_in(alloc, found)?)),
         "may-lose" => Ok(Request::Forecast(Outage::Lose, named_in(alloc, found)?)),
@@ -98,6 +129,12 @@ fn request_in<'a>(alloc: Global, matches: &ArgMatches<'a>) -> Result<Request<'a>
 
 fn mask_in<'a>(matches: &ArgMatches<'a>) -> Result<&'a str, Stop> {
     matches.get_str("mask").ok_or(Stop::Usage)
+}
+
+fn words_in<'a>(matches: &ArgMatches<'a>) -> Result<RecipeWords<'a>, Stop> {
+    let mask = mask_in(matches)?;
+    let fragment = matches.get_str("fragment").ok_or(Stop::Usage)?;
+    Ok(RecipeWords { mask, fragment })
 }
 
 fn named_in(alloc: Global, matches: &ArgMatches<'_>) -> Result<Vec<Named>, Stop> {
@@ -140,7 +177,17 @@ fn serve<T: Threads + Wait + Sync>(
         Request::Recover6 { mask } => {
             recover_narrow(rt.alloc(), mask, &mut Plain::new(io::writer(rt)))
         }
+        Request::Recipe(code, words) => tell_recipe(rt, *code, *words),
+        Request::Matrix(code) => matrix(rt.alloc(), *code, &mut Plain::new(io::writer(rt))),
     }
+}
+
+fn tell_recipe(rt: &HostRuntime, code: Code, words: RecipeWords<'_>) -> Result<Status, RunFault> {
+    let mut sink = Plain::new(io::writer(rt));
+    let stderr = rt.stderr();
+    let mut errors = Plain::new(io::writer(&stderr));
+    let RecipeWords { mask, fragment } = words;
+    recipe(rt.alloc(), code, mask, fragment, &mut sink, &mut errors)
 }
 
 fn run_input<T: Threads + Wait + Sync>(rt: &HostRuntime, threads: &T) -> Result<Status, RunFault> {

@@ -22,6 +22,10 @@ pub(crate) enum Stop {
   lrcman may-lose WHO.. < SEQUEL    the same if they were lost
   lrcman recover MASK               can these losses of a wide stripe be recovered? (four hexadecimal digits)
   lrcman recover6 MASK              the same of a narrow stripe
+  lrcman recipe MASK F              how is fragment F of a wide stripe rebuilt after these losses? (sources and coefficients)
+  lrcman recipe6 MASK F             the same of a narrow stripe
+  lrcman matrix                     print the generator matrix of wide stripes, in hexadecimal
+  lrcman matrix6                    the same of narrow stripes
 status: 0 done, 1 a line of a script is bad, 2 input or command line refused, 3 fault, 4 not safe
 manual page: lrcman(1); a bundle without an image is a sequel too")]
     Usage,

@@ -1,5 +1,4 @@
-use Rattle.std.proofs.Common.{◌≡◌, ◌++◌, ℕ, List, string_bytes, OnOk, subst}
-use Rattle.lrc_show.specs.Shown.{forecast_row}
+use Rattle.std.proofs.Common.{◌≡◌, ℕ, List, string_bytes, OnOk, subst}
 use Rattle.lrc_show.proofs.ForecastLemmas.{outlook-told}
 use Rattle.lrc_show.proofs.forecast.push_outlook.Goals as goal
 

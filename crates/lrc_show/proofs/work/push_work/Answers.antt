@@ -21,5 +21,5 @@ returns-clause-text c =
     let st = state_of c.args.book.now in
     let items = c.as_slice-stripe-items.result.now in
     let all : items ≡ work nodes st = search rules in
-    table-all (work_rows nodes st) items (work nodes st) c.loop-stripe.stripe-index (codes "stripe,fragment,kind,sources,standing,holder,epoch\n") (string_bytes c.args.out.now) _
+    table-all (work_rows nodes st) items (work nodes st) c.loop-stripe.stripe-index (codes "stripe,fragment,kind,sources,reads,standing,holder,epoch\n") (string_bytes c.args.out.now) _
     (string_bytes c.loop-stripe.out) c.loop-stripe-test.false c.loop-stripe.invariant c.in_ok-push_str.ensures.bytes all
