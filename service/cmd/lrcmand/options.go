@@ -1,0 +1,264 @@
+package main
+
+import (
+	"crypto/tls"
+	"crypto/x509"
+	"errors"
+	"flag"
+	"fmt"
+	"hash/fnv"
+	"io"
+	"log"
+	"net"
+	"os"
+	"strings"
+	"time"
+
+	"go.etcd.io/etcd/pkg/transport"
+
+	"lrcman/service/internal/book"
+	"lrcman/service/internal/engine"
+	"lrcman/service/internal/engine/raftlog"
+	"lrcman/service/internal/front"
+)
+
+// options are the words of the command line.
+type options struct {
+	data, listen, peer, group, tokenFile string
+	members                              string
+	cert, key, clientCA                  string
+	peerCert, peerKey, peerCA            string
+	id, tick, snapshotEvery, trailing    uint64
+	join, trustNetwork                   bool
+	election, timeout                    time.Duration
+	self                                 engine.Member
+	first                                []engine.Member
+	rights                               *front.Rights
+}
+
+func parse(words []string) (*options, error) {
+	o := &options{}
+	flags := flag.NewFlagSet("lrcmand", flag.ContinueOnError)
+	flags.SetOutput(io.Discard)
+	flags.StringVar(&o.data, "data", "", "folder of this member")
+	flags.StringVar(&o.listen, "listen", "127.0.0.1:7421", "HOST:PORT for clients")
+	flags.Uint64Var(&o.id, "id", 1, "number of this member")
+	flags.StringVar(&o.members, "members", "", "the first members, alike on all of them: N=PEER/CLIENT,..")
+	flags.StringVar(&o.peer, "peer", "", "HOST:PORT for the other members")
+	flags.BoolVar(&o.join, "join", false, "this member was added to a group that runs")
+	flags.StringVar(&o.group, "group", "lrcmand", "members of another group are refused")
+	flags.Uint64Var(&o.tick, "tick", 600, "seconds between two ticks by the leader; 0: never")
+	flags.DurationVar(&o.election, "election", time.Second, "how long a leader may be silent")
+	flags.DurationVar(&o.timeout, "timeout", 10*time.Second, "how long a request may take")
+	flags.Uint64Var(&o.snapshotEvery, "snapshot-every", 100000, "entries between snapshots")
+	flags.Uint64Var(&o.trailing, "trailing", 5000, "entries that stay behind a snapshot")
+	flags.StringVar(&o.tokenFile, "token-file", "", "lines of ROLE TOKEN")
+	flags.StringVar(&o.cert, "cert", "", "certificate for clients")
+	flags.StringVar(&o.key, "key", "", "its key")
+	flags.StringVar(&o.clientCA, "client-ca", "", "who signs the certificates of clients")
+	flags.StringVar(&o.peerCert, "peer-cert", "", "certificate for the other members")
+	flags.StringVar(&o.peerKey, "peer-key", "", "its key")
+	flags.StringVar(&o.peerCA, "peer-ca", "", "who signs the certificates of members")
+	flags.BoolVar(&o.trustNetwork, "trust-network", false, "allows addresses beyond loopback without tokens or certificates")
+	if err := flags.Parse(words); errors.Is(err, flag.ErrHelp) {
+		return nil, usage(flags)
+	} else if err != nil {
+		return nil, err
+	}
+	if flags.NArg() > 0 {
+		return nil, fmt.Errorf("this word is none of the options: %q", flags.Arg(0))
+	}
+	return o, o.check()
+}
+
+func usage(flags *flag.FlagSet) error {
+	var text strings.Builder
+	flags.SetOutput(&text)
+	flags.PrintDefaults()
+	list := strings.TrimRight(text.String(), "\n")
+	return errors.New("usage: lrcmand --data DIR [OPTIONS]; docs/SERVICE.md describes them\n" + list)
+}
+
+func (o *options) check() error {
+	switch {
+	case o.data == "":
+		return errors.New("--data DIR is missing")
+	case o.id == 0 || o.id > engine.MostID:
+		return fmt.Errorf("--id is 1 to %d", engine.MostID)
+	case o.tick > 1<<31:
+		return errors.New("--tick is too high")
+	case o.election < 100*time.Millisecond:
+		return errors.New("--election is 100ms or more")
+	case o.timeout < o.election:
+		return errors.New("--timeout is --election or more")
+	case o.snapshotEvery == 0:
+		return errors.New("--snapshot-every is 1 or more")
+	case o.join && o.members != "":
+		return errors.New("--members is for the first members, and --join for one that was added")
+	case o.join && o.peer == "":
+		return errors.New("--join takes --peer")
+	case (o.cert == "") != (o.key == ""), o.clientCA != "" && o.cert == "":
+		return errors.New("--cert and --key come together, and --client-ca with both")
+	case (o.peerCert == "") != (o.peerKey == ""), (o.peerCert == "") != (o.peerCA == ""):
+		return errors.New("--peer-cert, --peer-key and --peer-ca come together")
+	}
+	if err := o.readMembers(); err != nil {
+		return err
+	}
+	if err := o.readRights(); err != nil {
+		return err
+	}
+	return o.checkAddresses()
+}
+
+// readMembers finds this member and the first ones.
+func (o *options) readMembers() error {
+	if o.members != "" {
+		for _, text := range strings.Split(o.members, ",") {
+			member, err := memberOf(text)
+			if err != nil {
+				return err
+			}
+			o.first = append(o.first, member)
+			if member.ID == o.id {
+				o.self = member
+			}
+		}
+		if o.self.ID == 0 {
+			return fmt.Errorf("--members lacks this one, %d", o.id)
+		}
+		if o.peer == "" {
+			o.peer = o.self.Peer
+		}
+		return unique(o.first)
+	}
+	o.self = engine.Member{ID: o.id, Peer: o.peer, Client: o.listen}
+	if !o.join {
+		o.first = []engine.Member{o.self}
+	}
+	return nil
+}
+
+func unique(members []engine.Member) error {
+	seen := map[uint64]bool{}
+	for _, member := range members {
+		if seen[member.ID] {
+			return fmt.Errorf("--members has %d twice", member.ID)
+		}
+		seen[member.ID] = true
+	}
+	return nil
+}
+
+// memberOf reads N=PEER/CLIENT.
+func memberOf(text string) (engine.Member, error) {
+	number, addresses, isThere := strings.Cut(text, "=")
+	peer, client, isThereToo := strings.Cut(addresses, "/")
+	id, err := book.ParseNumber(number, engine.MostID)
+	if !isThere || !isThereToo || err != nil || id == 0 {
+		return engine.Member{}, fmt.Errorf("--members has N=PEER/CLIENT with commas between, and not %q", text)
+	}
+	for _, address := range []string{peer, client} {
+		if err := front.CheckAddress(address); err != nil {
+			return engine.Member{}, fmt.Errorf("--members: an address %w", err)
+		}
+	}
+	return engine.Member{ID: id, Peer: peer, Client: client}, nil
+}
+
+func (o *options) readRights() error {
+	if o.tokenFile == "" {
+		return nil
+	}
+	file, err := os.Open(o.tokenFile)
+	if err != nil {
+		return err
+	}
+	defer file.Close()
+	if o.rights, err = front.ReadRights(file); err != nil {
+		return fmt.Errorf("%s: %w", o.tokenFile, err)
+	}
+	return nil
+}
+
+// checkAddresses refuses ports that others reach and that ask nobody who they are.
+func (o *options) checkAddresses() error {
+	if err := front.CheckAddress(o.listen); err != nil {
+		return fmt.Errorf("--listen %w", err)
+	}
+	if o.peer != "" {
+		if err := front.CheckAddress(o.peer); err != nil {
+			return fmt.Errorf("--peer %w", err)
+		}
+	}
+	if o.trustNetwork {
+		return nil
+	}
+	if !isLoopback(o.listen) && o.rights == nil && o.clientCA == "" {
+		return errors.New("--listen beyond loopback takes --token-file or --client-ca, or else --trust-network")
+	}
+	if o.peer != "" && !isLoopback(o.peer) && o.peerCA == "" {
+		return errors.New("--peer beyond loopback takes --peer-cert, --peer-key and --peer-ca, or else --trust-network")
+	}
+	return nil
+}
+
+func isLoopback(address string) bool {
+	host, _, _ := net.SplitHostPort(address)
+	ip := net.ParseIP(host)
+	return host == "localhost" || ip != nil && ip.IsLoopback()
+}
+
+func (o *options) tickTime() time.Duration { return time.Duration(o.tick) * time.Second }
+
+func (o *options) config(logger *log.Logger) raftlog.Config {
+	group := fnv.New64a()
+	group.Write([]byte(o.group)) // (never an error)
+	cfg := raftlog.Config{Dir: o.data, Group: group.Sum64(), Self: o.self, Members: o.first, Listen: o.peer,
+		Election: o.election, SnapshotEvery: o.snapshotEvery, Trailing: o.trailing, Log: logger,
+		Fatal: func(err error) { logger.Fatal(err) }}
+	if o.peerCA != "" {
+		cfg.TLS = transport.TLSInfo{CertFile: o.peerCert, KeyFile: o.peerKey, TrustedCAFile: o.peerCA, ClientCertAuth: true}
+	}
+	return cfg
+}
+
+// listener makes the port for clients; what TLS takes is nil without it.
+func (o *options) listener() (net.Listener, *tls.Config, error) {
+	var config *tls.Config
+	if o.cert != "" {
+		var err error
+		if config, err = o.tls(); err != nil {
+			return nil, nil, err
+		}
+	}
+	listener, err := net.Listen("tcp", o.listen)
+	if err != nil {
+		return nil, nil, err
+	}
+	return front.Limit(listener), config, nil
+}
+
+// tls reads the certificate anew for each handshake, so that a new one is taken without a restart.
+func (o *options) tls() (*tls.Config, error) {
+	load := func(*tls.ClientHelloInfo) (*tls.Certificate, error) {
+		certificate, err := tls.LoadX509KeyPair(o.cert, o.key)
+		return &certificate, err
+	}
+	if _, err := load(nil); err != nil {
+		return nil, err
+	}
+	config := &tls.Config{MinVersion: tls.VersionTLS12, GetCertificate: load}
+	if o.clientCA == "" {
+		return config, nil
+	}
+	text, err := os.ReadFile(o.clientCA)
+	if err != nil {
+		return nil, err
+	}
+	config.ClientCAs, config.ClientAuth = x509.NewCertPool(), tls.RequireAndVerifyClientCert
+	if !config.ClientCAs.AppendCertsFromPEM(text) {
+		return nil, fmt.Errorf("%s has no certificate", o.clientCA)
+	}
+	return config, nil
+}

@@ -1,0 +1,155 @@
+package main
+
+import (
+	"bytes"
+	"context"
+	"fmt"
+	"io"
+	"log"
+	"net"
+	"net/http"
+	"os/exec"
+	"regexp"
+	"strings"
+	"testing"
+	"time"
+
+	"lrcman/service/internal/ctl"
+	"lrcman/service/internal/survey/recorded"
+)
+
+// start runs a member alone, which ends with the test's process, and returns its address.
+func start(t *testing.T) string {
+	t.Helper()
+	listener, err := net.Listen("tcp", "127.0.0.1:0")
+	if err != nil {
+		t.Fatal(err)
+	}
+	address := listener.Addr().String()
+	listener.Close()
+	o, err := parse([]string{"--data", t.TempDir(), "--listen", address, "--tick", "0"})
+	if err != nil {
+		t.Fatal(err)
+	}
+	go run(o, log.New(io.Discard, "", 0))
+	for begin := time.Now(); ; time.Sleep(20 * time.Millisecond) {
+		if answer, err := http.Get("http://" + address + "/health"); err == nil {
+			answer.Body.Close()
+			if answer.StatusCode == http.StatusOK {
+				return address
+			}
+		}
+		if time.Since(begin) > 20*time.Second {
+			t.Fatal("the member does not begin")
+		}
+	}
+}
+
+func get(t *testing.T, url string) string {
+	t.Helper()
+	answer, err := http.Get(url)
+	if err != nil {
+		t.Fatal(err)
+	}
+	defer answer.Body.Close()
+	text, err := io.ReadAll(answer.Body)
+	if err != nil || answer.StatusCode != http.StatusOK {
+		t.Fatalf("%s: %d %v %.200s", url, answer.StatusCode, err, text)
+	}
+	return string(text)
+}
+
+// makeBook makes a recorded book by a request, and its calls from a terminal.
+func makeBook(t *testing.T, address string, b *recorded.Book) {
+	t.Helper()
+	r, err := http.NewRequest("PUT", "http://"+address+"/books/p0", bytes.NewReader(b.TOML()))
+	if err != nil {
+		t.Fatal(err)
+	}
+	answer, err := http.DefaultClient.Do(r)
+	if err != nil || answer.StatusCode != http.StatusOK {
+		t.Fatal(answer, err)
+	}
+	answer.Body.Close()
+	for i, line := range b.Lines {
+		words := append([]string{"--server", address, "--session", fmt.Sprint(line.Session), "call", "p0"}, strings.Split(line.Command, " ")...)
+		if line.Worker != "" {
+			words = append(words, "--worker", strings.ReplaceAll(line.Worker, " ", "-"))
+		}
+		var out, err strings.Builder
+		status := ctl.Run(context.Background(), words, &out, &err)
+		if want := fmt.Sprintf("%d %s", i+1, line.Reply); recorded.HasRules() && !strings.HasPrefix(out.String(), want) || status == ctl.Failed || status == ctl.Usage {
+			t.Fatalf("%s: status %d, %s%s, and the model answers %s", line.Command, status, out.String(), err.String(), want)
+		}
+	}
+}
+
+// metric is the value of a sample.
+func metric(text, sample string) string {
+	for _, line := range strings.Split(text, "\n") {
+		if value := strings.TrimPrefix(line, sample+" "); value != line {
+			return value
+		}
+	}
+	return "absent"
+}
+
+func TestAMemberShowsWhatItDoes(t *testing.T) {
+	address := start(t)
+	b, err := recorded.Load("rack")
+	if err != nil {
+		t.Fatal(err)
+	}
+	makeBook(t, address, b)
+	time.Sleep(1200 * time.Millisecond) // (the watch steps once a second)
+	text := get(t, "http://"+address+"/metrics")
+	want := map[string]int{`lrcmand_entries_total{book="p0"}`: len(b.Lines), `lrcmand_raft_is_leader`: 1,
+		`lrcmand_http_requests_total{route="/books/{book}/call",status="200"}`: len(b.Lines), `lrcmand_call_duration_seconds_count{book="p0"}`: len(b.Lines)}
+	if recorded.HasRules() {
+		want[`lrcmand_stripes{book="p0",level="risk",margin="1"}`] = b.Value("at_risk_margin_1")
+		want[`lrcmand_work_fragments{book="p0",standing="open"}`] = b.Standing("open")
+		for cause, count := range b.Counts {
+			command, reply, _ := strings.Cut(cause, " ")
+			want[fmt.Sprintf(`lrcmand_commands_total{book="p0",command=%q,reply=%q}`, command, reply)] = int(count)
+		}
+	}
+	for sample, value := range want {
+		if got := metric(text, sample); got != fmt.Sprint(value) {
+			t.Errorf("%s is %s and not %d", sample, got, value)
+		}
+	}
+	if page := get(t, "http://"+address+"/?book=p0"); !strings.Contains(page, "<title>lrcmand</title>") {
+		t.Error("there is no page")
+	}
+	browse(t, address, b)
+}
+
+// browse compares what a browser shows of the member's book with the model.
+func browse(t *testing.T, address string, b *recorded.Book) {
+	program, err := exec.LookPath("chromium")
+	if err != nil {
+		t.Log("there is no chromium here, so the page is not looked at")
+		return
+	}
+	ctx, cancel := context.WithTimeout(context.Background(), 90*time.Second)
+	defer cancel()
+	dom, err := exec.CommandContext(ctx, program, "--headless", "--no-sandbox", "--disable-gpu", "--disable-dev-shm-usage",
+		"--user-data-dir="+t.TempDir(), "--virtual-time-budget=4000", "--dump-dom", "http://"+address+"/?book=p0").Output()
+	if err != nil {
+		t.Fatal(err)
+	}
+	facts := map[string]int{"commands": len(b.Lines)}
+	if recorded.HasRules() {
+		facts["stripes"], facts["margin 2"], facts["margin 1"] = b.Value("stripes"), b.Value("at_risk_margin_2"), b.Value("at_risk_margin_1")
+		facts["leased"], facts["open"] = b.Standing("leased"), b.Standing("open")
+	}
+	for name, value := range facts {
+		found := regexp.MustCompile(`data-fact="` + name + `"[^>]*><dt>[^<]*</dt><dd>([^<]*)</dd>`).FindSubmatch(dom)
+		if found == nil || string(found[1]) != fmt.Sprint(value) {
+			t.Errorf("the page shows %q for %s, and the model has %d", found, name, value)
+		}
+	}
+	if strings.Count(string(dom), "<script>") != 1 {
+		t.Error("a name became markup")
+	}
+}

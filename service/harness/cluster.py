@@ -1,0 +1,155 @@
+"""Processes of lrcmand on loopback: started, killed, stopped, woken, and asked over HTTP."""
+import http.client
+import json
+import os
+import shutil
+import signal
+import socket
+import subprocess
+import time
+
+
+def free_port():
+    with socket.socket() as one:
+        one.bind(("127.0.0.1", 0))
+        return one.getsockname()[1]
+
+
+class Asker:
+    """A client with one connection, which is made anew after a fault and for another member."""
+
+    def __init__(self, limit):
+        self.limit, self.port, self.connection = limit, None, None
+
+    def ask(self, port, method, path, body=None, headers=None):
+        """The status, the headers and the text of an answer. Status 0: there is none."""
+        if port != self.port:
+            self.close()
+        try:
+            if self.connection is None:
+                self.connection, self.port = http.client.HTTPConnection("127.0.0.1", port, timeout=self.limit), port
+            self.connection.request(method, path, body, headers or {})
+            answer = self.connection.getresponse()
+            return answer.status, answer.headers, answer.read()
+        except (OSError, http.client.HTTPException):
+            self.close()
+            return 0, {}, b""
+
+    def close(self):
+        if self.connection is not None:
+            self.connection.close()
+        self.connection = None
+
+    def json(self, port, method, path, value=None):
+        """The status and the object of an answer."""
+        body = None if value is None else json.dumps(value)
+        status, _, text = self.ask(port, method, path, body, {"Content-Type": "application/json"} if body else {})
+        return status, json.loads(text) if text and status else {}
+
+
+class Member:
+    """One process, with its folder, its ports and what it said."""
+
+    def __init__(self, group, number, words):
+        self.group, self.number, self.words = group, number, words
+        self.client, self.peer = free_port(), free_port()
+        self.folder = os.path.join(group.folder, f"member{number}")
+        self.process, self.is_stopped, self.is_first = None, False, False
+
+    def start(self, *more):
+        with open(f"{self.folder}.log", "ab") as said:
+            address = f"127.0.0.1:{self.client}"
+            words = ["--data", self.folder, "--id", str(self.number), "--listen", address, *self.words, *more]
+            env = {**os.environ, **self.group.env}
+            self.process = subprocess.Popen([self.group.program, *words], stdout=said, stderr=said, env=env)
+        self.is_stopped = False
+
+    def runs(self):
+        return self.process is not None and self.process.poll() is None
+
+    def kill(self):
+        if self.runs():
+            self.process.kill()
+        self.process.wait()
+
+    def stop(self):
+        self.process.send_signal(signal.SIGSTOP)
+        self.is_stopped = True
+
+    def wake(self):
+        self.process.send_signal(signal.SIGCONT)
+        self.is_stopped = False
+
+    def said(self):
+        with open(f"{self.folder}.log", encoding="utf-8", errors="replace") as file:
+            return file.read()
+
+
+class Group:
+    """The members of a group. Members by number; one that was removed is in `gone`."""
+
+    def __init__(self, program, folder, size, words=(), env=None):
+        self.program, self.folder, self.env = program, folder, env or {}
+        shutil.rmtree(folder, ignore_errors=True)
+        os.makedirs(folder)
+        self.members, self.gone, self.words = {}, {}, list(words)
+        for number in range(1, size + 1):
+            self.members[number] = Member(self, number, self.words)
+            self.members[number].is_first = True
+        self.first = ",".join(f"{it.number}=127.0.0.1:{it.peer}/127.0.0.1:{it.client}" for it in self.members.values())
+        self.asker = Asker(3)
+
+    def __enter__(self):
+        for member in self.members.values():
+            self.start(member)
+        return self
+
+    def __exit__(self, *_):
+        for member in [*self.members.values(), *self.gone.values()]:
+            if member.runs():
+                member.kill()
+
+    def start(self, member):
+        if member.is_first:
+            member.start("--members", self.first)
+        else:
+            member.start("--join", "--peer", f"127.0.0.1:{member.peer}")
+
+    def ports(self):
+        return [member.client for member in list(self.members.values())]
+
+    def status(self, member):
+        return self.asker.json(member.client, "GET", "/status")[1]
+
+    def leader(self, limit=20):
+        """The number of the leader; the one of the highest term, if two think that they are."""
+        end = time.monotonic() + limit
+        while time.monotonic() < end:
+            told = [self.status(it) for it in list(self.members.values()) if it.runs() and not it.is_stopped]
+            leads = [(it["term"], it["id"]) for it in told if it and it.get("leader") == it.get("id")]
+            if leads:
+                return max(leads)[1]
+            time.sleep(0.02)
+        raise RuntimeError(f"there is no leader in {self.folder}")
+
+    def change(self, method, path, value=None, limit=20):
+        """Asks one member after the other until the change is made."""
+        end = time.monotonic() + limit
+        while time.monotonic() < end:
+            for member in list(self.members.values()):
+                if member.runs() and not member.is_stopped:
+                    status, told = self.asker.json(member.client, method, path, value)
+                    if status in (200, 409):
+                        return status, told
+            time.sleep(0.1)
+        raise RuntimeError(f"{method} {path} is not made")
+
+    def add(self, number):
+        member = Member(self, number, self.words)
+        self.change("PUT", f"/members/{number}", {"peer": f"127.0.0.1:{member.peer}", "client": f"127.0.0.1:{member.client}"})
+        self.members[number] = member
+        self.start(member)
+
+    def remove(self, number):
+        self.change("DELETE", f"/members/{number}")
+        self.gone[number] = self.members.pop(number)

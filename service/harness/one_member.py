@@ -1,0 +1,73 @@
+"""One member alone: it starts, is killed, goes on, and shows what tests/shown.py shows."""
+import os
+import subprocess
+import time
+
+import harness
+import rules
+import shown
+from cluster import Asker, Group, Member
+
+
+def wait_ready(asker, member, limit=10):
+    """The seconds until a member that was just started answers that it is well."""
+    begun = time.monotonic()
+    while asker.ask(member.client, "GET", "/health")[0] != 200:
+        if time.monotonic() - begun > limit:
+            raise RuntimeError(f"it is not ready: {member.said()[-500:]}")
+        time.sleep(0.005)
+    return time.monotonic() - begun
+
+
+def run_example(count, asker, member, name):
+    """The script of an example, call by call, and then each table: all as the model has it."""
+    topology, _ = harness.split(harness.example(name))
+    nodes, scripts = harness.parts_of(harness.example(name))
+    store, book = rules.Store(nodes), name.replace("_", "-")
+    asker.ask(member.client, "PUT", f"/books/{book}", topology)
+    for number, command in enumerate(scripts[0], 1):
+        status, told = asker.json(member.client, "POST", f"/books/{book}/call", {"command": command})
+        right = store.call(1, command)
+        is_right = (status, told.get("n"), told.get("reply")) == (200, number, right)
+        count.check(f"{name} {number}: {told}, and not {right}", is_right)
+    for view in shown.VIEWS:
+        text = asker.ask(member.client, "GET", f"/books/{book}/show/{view}?format=csv")[2].decode()
+        count.check(f"{name}: show {view}: {text}", text == shown.shown(view, store, len(scripts[0])))
+    text = asker.ask(member.client, "GET", f"/books/{book}/image")[2].decode()
+    count.check(f"{name}: image: {text}", text == store.image(len(scripts[0])))
+
+
+EXAMPLES = ["every_reply", "each_mode_and_level", "narrow_stripe_placed_anew", "rolling_upgrade", "nodes_fail_under_both_codes",
+            "lease_ends", "next_looks_further", "worker_dead"]
+
+
+def test_one_member(count, program, room):
+    group = Group(program, f"{room}/one", 0)
+    member, asker = Member(group, 1, []), Asker(5)
+    times = []
+    try:
+        for _ in range(3):  # (the first start makes the folder; the others go on with it)
+            member.start()
+            times.append(wait_ready(asker, member))
+            member.kill()
+        print(f"one member is ready after {', '.join(f'{it:.2f}' for it in times)} s", flush=True)
+        count.check(f"it is ready within a second: {times}", min(times) < 1)
+        member.start()
+        wait_ready(asker, member)
+        for name in EXAMPLES:
+            run_example(count, asker, member, name)
+        images = [asker.ask(member.client, "GET", f"/books/{name.replace('_', '-')}/image")[2] for name in EXAMPLES]
+        second = Member(group, 1, [])
+        second.start()
+        is_refused = second.process.wait(10) == 1 and "another process has the folder" in second.said()
+        count.check(f"a second process on the folder ends: {second.said()}", is_refused)
+        member.kill()
+        member.start()
+        wait_ready(asker, member)
+        again = [asker.ask(member.client, "GET", f"/books/{name.replace('_', '-')}/image?now=1")[2] for name in EXAMPLES]
+        count.check("after a kill all books are as they were", again == images)
+    finally:
+        member.kill()
+    words = [program, "--data", os.path.join(room, "far"), "--listen", "0.0.0.0:1"]
+    ran = subprocess.run(words, capture_output=True, text=True)
+    count.check(f"a port beyond loopback: {ran.stderr}", ran.returncode == 2 and "--listen beyond loopback takes" in ran.stderr)

@@ -1,0 +1,300 @@
+// Package book is the proved book of lrc_embed for Go.
+//
+// Everything that a command does is decided by the library. This package checks layouts, carries numbers over and writes
+// words. CGO_CFLAGS names the folder of lrc_embed.h and CGO_LDFLAGS the library: service/build sets both.
+package book
+
+/*
+#include <stdlib.h>
+#include <string.h>
+#include "lrc_embed.h"
+
+// A call and its entry in one crossing.
+static uint32_t call_entry(lrc_handle *handle, uint8_t session, const lrc_command *command, lrc_entry *entry) {
+    lrc_reply reply;
+    memset(&reply, 0, sizeof reply);
+    uint32_t status = lrc_embed_call(handle, session, command, &reply);
+    size_t count = 0;
+    if (status == LRC_DONE) status = lrc_embed_count(handle, &count);
+    if (status == LRC_DONE) status = lrc_embed_entry(handle, count - 1, entry);
+    return status;
+}
+*/
+import "C"
+
+import (
+	"errors"
+	"fmt"
+	"unsafe"
+)
+
+// The limits of the library.
+const (
+	Stripes         = C.LRC_STRIPES
+	Fragments       = C.LRC_FRAGMENTS
+	NarrowFragments = C.LRC_NARROW_FRAGMENTS
+	Sessions        = C.LRC_SESSIONS
+)
+
+// The layouts are those of the header; the library's agree with it, which the C compiler has checked.
+const (
+	_ = uint(unsafe.Sizeof(Command{}) - C.sizeof_lrc_command)
+	_ = uint(C.sizeof_lrc_command - unsafe.Sizeof(Command{}))
+	_ = uint(unsafe.Sizeof(Reply{}) - C.sizeof_lrc_reply)
+	_ = uint(C.sizeof_lrc_reply - unsafe.Sizeof(Reply{}))
+	_ = uint(unsafe.Sizeof(Entry{}) - C.sizeof_lrc_entry)
+	_ = uint(C.sizeof_lrc_entry - unsafe.Sizeof(Entry{}))
+	_ = uint(unsafe.Sizeof(LeaseRow{}) - C.sizeof_lrc_lease)
+	_ = uint(C.sizeof_lrc_lease - unsafe.Sizeof(LeaseRow{}))
+	_ = uint(unsafe.Sizeof(StripeRow{}) - C.sizeof_lrc_stripe)
+	_ = uint(C.sizeof_lrc_stripe - unsafe.Sizeof(StripeRow{}))
+	_ = uint(unsafe.Sizeof(NodeRow{}) - C.sizeof_lrc_node)
+	_ = uint(C.sizeof_lrc_node - unsafe.Sizeof(NodeRow{}))
+	_ = uint(unsafe.Sizeof(Outlook{}) - C.sizeof_lrc_outlook)
+	_ = uint(C.sizeof_lrc_outlook - unsafe.Sizeof(Outlook{}))
+	_ = uint(unsafe.Sizeof(Home{}) - C.sizeof_lrc_home)
+	_ = uint(C.sizeof_lrc_home - unsafe.Sizeof(Home{}))
+	_ = uint(unsafe.Sizeof(Plan{}) - C.sizeof_lrc_repair_plan)
+	_ = uint(C.sizeof_lrc_repair_plan - unsafe.Sizeof(Plan{}))
+)
+
+// A Book is one book of the library. One goroutine at a time may use it, looks included.
+type Book struct {
+	handle *C.lrc_handle // in C memory: the library keeps a pointer of its own in it
+}
+
+// A Fault is a status of the library other than done.
+type Fault struct {
+	Status uint32
+	Detail int    // with some statuses: the position, the number or the line at fault
+	Cause  uint32 // of an image's line
+}
+
+// Error is the status in words, with the place at fault.
+func (f *Fault) Error() string {
+	switch {
+	case f.Status == C.LRC_INVALID_IMAGE:
+		return fmt.Sprintf("%s: image %d cause %d", causeWords[f.Cause], f.Detail, f.Cause)
+	case f.Status == C.LRC_BAD_LINE:
+		return fmt.Sprintf("this line can't stand here in an image: image %d", f.Detail)
+	case topologyWords[f.Status] != "":
+		return f.topology()
+	}
+	return statusName(f.Status)
+}
+
+func (f *Fault) topology() string {
+	number := f.Status - C.LRC_SYNTAX + 1
+	text := fmt.Sprintf("%s: topology %d", topologyWords[f.Status], number)
+	if f.Status == C.LRC_BAD_FIELD || f.Status == C.LRC_NODE_OUT_OF_RANGE || f.Status == C.LRC_DOUBLE_NODE {
+		text += fmt.Sprintf(" %d", f.Detail)
+	}
+	return text
+}
+
+// The words of docs/FORMATS.md, "Refusals in words".
+var topologyWords = map[uint32]string{
+	C.LRC_SYNTAX:            "the topology is not TOML in UTF-8",
+	C.LRC_NO_NODES:          "the topology has no nodes",
+	C.LRC_BAD_FIELD:         "a number of the node at this position is missing, or not a whole number",
+	C.LRC_NODE_OUT_OF_RANGE: "a number of the node at this position is out of its range",
+	C.LRC_DOUBLE_NODE:       "the node of this number is there twice",
+	C.LRC_TOO_MANY:          "the topology has more than 512 nodes",
+}
+
+var causeWords = map[uint32]string{
+	C.LRC_CAUSE_UNKNOWN_DOMAIN:   "no node is in the upgrading domain",
+	C.LRC_CAUSE_TOO_MANY_ENTRIES: "the number of entries is too high",
+	C.LRC_CAUSE_TOO_MANY_TICKS:   "the clock is too high",
+	C.LRC_CAUSE_OUT_OF_ORDER:     "the row does not come after the earlier ones of its kind",
+	C.LRC_CAUSE_SAYS_NOTHING:     "each count of the row is 0",
+	C.LRC_CAUSE_UNKNOWN_NODE:     "the topology has no such node",
+	C.LRC_CAUSE_GONE_AND_DOWN:    "the node is gone and down",
+	C.LRC_CAUSE_UNKNOWN_FRAGMENT: "the code of the stripe lacks the fragment",
+	C.LRC_CAUSE_UNKNOWN_SLOT:     "the node has no such slot",
+	C.LRC_CAUSE_NODE_GONE:        "the node of the seat is gone",
+	C.LRC_CAUSE_SEAT_TAKEN:       "the seat is held already",
+	C.LRC_CAUSE_NOT_LAWFUL:       "another fragment of the stripe rules the node out",
+	C.LRC_CAUSE_TOO_MANY_GRANTS:  "a count of grants is too high",
+	C.LRC_CAUSE_UNKNOWN_STRIPE:   "the image has no such stripe",
+	C.LRC_CAUSE_NEVER_GRANTED:    "no lease of the fragment was granted",
+	C.LRC_CAUSE_WRONG_EXPIRY:     "the lease ended already, or ends later than three ticks after the clock",
+}
+
+// Texts that no book begins in, by the library's judgement, as any member of a group finds it.
+func (f *Fault) isOfText() bool { return f.Status >= C.LRC_SYNTAX && f.Status <= C.LRC_INVALID_IMAGE }
+
+// IsOfText tells whether an error says that a text is no list of nodes, or no image over them.
+func IsOfText(err error) bool {
+	var fault *Fault
+	return errors.As(err, &fault) && fault.isOfText()
+}
+
+func is(err error, status uint32) bool {
+	var fault *Fault
+	return errors.As(err, &fault) && fault.Status == status
+}
+
+// IsUnknown tells whether an error says that there is no such thing.
+func IsUnknown(err error) bool { return is(err, C.LRC_UNKNOWN) }
+
+// IsForgotten tells whether an error says that entries are forgotten.
+func IsForgotten(err error) bool { return is(err, C.LRC_FORGOTTEN) }
+
+func faultOf(status C.uint32_t) error {
+	if status == C.LRC_DONE {
+		return nil
+	}
+	return &Fault{Status: uint32(status)}
+}
+
+// Check compares the library with the header that this program was compiled with.
+func Check() error {
+	if version := uint32(C.lrc_embed_version()); version != C.LRC_EMBED_VERSION {
+		return fmt.Errorf("the library has version %d of its interface, and the header is for version %d",
+			version, C.LRC_EMBED_VERSION)
+	}
+	return nil
+}
+
+// Interface is the version of the library's interface.
+func Interface() uint32 { return uint32(C.lrc_embed_version()) }
+
+// Rules is the version of the rules. Logs and images of another one are not those of this library.
+func Rules() uint32 { return uint32(C.lrc_embed_rules_version()) }
+
+func name(ask func(text *C.uint8_t, room C.size_t, length *C.size_t) C.uint32_t) string {
+	text, length := make([]byte, 24), C.size_t(0)
+	if ask(firstByte(text), 24, &length) != C.LRC_DONE {
+		return ""
+	}
+	return string(text[:length])
+}
+
+func statusName(status uint32) string {
+	found := name(func(text *C.uint8_t, room C.size_t, length *C.size_t) C.uint32_t {
+		return C.lrc_embed_status_name(C.uint32_t(status), text, room, length)
+	})
+	if found == "" {
+		return fmt.Sprintf("status %d", status)
+	}
+	return found
+}
+
+// RefusalName is the word for a refusal, or "".
+func RefusalName(refusal uint8) string {
+	return name(func(text *C.uint8_t, room C.size_t, length *C.size_t) C.uint32_t {
+		return C.lrc_embed_refusal_name(C.uint8_t(refusal), text, room, length)
+	})
+}
+
+func firstByte(text []byte) *C.uint8_t {
+	if len(text) == 0 {
+		return nil
+	}
+	return (*C.uint8_t)(unsafe.Pointer(&text[0]))
+}
+
+func closed() (*Book, error) {
+	handle := (*C.lrc_handle)(C.calloc(1, C.sizeof_lrc_handle))
+	if handle == nil {
+		return nil, &Fault{Status: C.LRC_OUT_OF_MEMORY}
+	}
+	return &Book{handle}, nil
+}
+
+// Open makes a book over the nodes of a text.
+func Open(nodes []byte) (*Book, error) {
+	b, err := closed()
+	if err != nil {
+		return nil, err
+	}
+	detail := C.size_t(0)
+	if status := C.lrc_embed_open(b.handle, firstByte(nodes), C.size_t(len(nodes)), &detail); status != C.LRC_DONE {
+		b.Close()
+		return nil, &Fault{Status: uint32(status), Detail: int(detail)}
+	}
+	return b, nil
+}
+
+// OpenImage makes a book over the nodes of one text that begins in the image of the other.
+func OpenImage(nodes, image []byte) (*Book, error) {
+	b, err := closed()
+	if err != nil {
+		return nil, err
+	}
+	detail, cause := C.size_t(0), C.uint32_t(0)
+	status := C.lrc_embed_open_image(b.handle, firstByte(nodes), C.size_t(len(nodes)), firstByte(image), C.size_t(len(image)),
+		&detail, &cause)
+	if status != C.LRC_DONE {
+		b.Close()
+		return nil, &Fault{Status: uint32(status), Detail: int(detail), Cause: uint32(cause)}
+	}
+	return b, nil
+}
+
+// Close frees the book. No other method may be called after it.
+func (b *Book) Close() {
+	C.lrc_embed_close(b.handle)
+	C.free(unsafe.Pointer(b.handle))
+	b.handle = nil
+}
+
+// Call makes one command and returns its entry.
+func (b *Book) Call(session uint8, command Command) (Entry, error) {
+	var entry Entry
+	status := C.call_entry(b.handle, C.uint8_t(session), (*C.lrc_command)(unsafe.Pointer(&command)),
+		(*C.lrc_entry)(unsafe.Pointer(&entry)))
+	return entry, faultOf(status)
+}
+
+// Peek returns the reply that a call would get now.
+func (b *Book) Peek(session uint8, command Command) (Reply, error) {
+	var reply Reply
+	status := C.lrc_embed_peek(b.handle, C.uint8_t(session), (*C.lrc_command)(unsafe.Pointer(&command)),
+		(*C.lrc_reply)(unsafe.Pointer(&reply)))
+	return reply, faultOf(status)
+}
+
+// Before is the number of entries that were made before those that the book still has.
+func (b *Book) Before() uint64 {
+	before := C.uint64_t(0)
+	C.lrc_embed_before(b.handle, &before)
+	return uint64(before)
+}
+
+// Made is the number of entries that were made.
+func (b *Book) Made() uint64 {
+	count := C.size_t(0)
+	C.lrc_embed_count(b.handle, &count)
+	return b.Before() + uint64(count)
+}
+
+// Forget empties the history. Nothing else changes.
+func (b *Book) Forget() error { return faultOf(C.lrc_embed_forget(b.handle)) }
+
+// Image is the text of the book's state.
+func (b *Book) Image() ([]byte, error) {
+	for room := 1 << 20; ; { // to ask with no room costs as much as the image
+		text, length := make([]byte, room), C.size_t(0)
+		switch status := C.lrc_embed_image(b.handle, firstByte(text), C.size_t(room), &length); status {
+		case C.LRC_DONE:
+			return text[:length], nil
+		case C.LRC_SHORT:
+			room = int(length)
+		default:
+			return nil, faultOf(status)
+		}
+	}
+}
+
+// Entries writes the entries behind a place, as many as there is room for, and returns how many.
+func (b *Book) Entries(place uint64, rows []Entry) (int, error) {
+	count := C.size_t(0)
+	first := (*C.lrc_entry)(unsafe.Pointer(&rows[0]))
+	status := C.lrc_embed_entries(b.handle, C.uint64_t(place), first, C.size_t(len(rows)), &count)
+	return int(count), faultOf(status)
+}
+
+// IsOutOfRange tells whether an error says that a number is out of its range.
+func IsOutOfRange(err error) bool { return is(err, C.LRC_OUT_OF_RANGE) }

@@ -1,0 +1,204 @@
+package book
+
+import (
+	"fmt"
+	"strconv"
+	"strings"
+)
+
+// A ReplyKind has the numbers of lrc_reply_kind.
+type ReplyKind uint8
+
+// The kinds of replies.
+const (
+	Placed  ReplyKind = 1
+	Dropped ReplyKind = 2
+	Granted ReplyKind = 3
+	Idle    ReplyKind = 4
+	Ended   ReplyKind = 5
+	Changed ReplyKind = 6
+	Refused ReplyKind = 7
+	Ticked  ReplyKind = 8
+	Placed6 ReplyKind = 9
+)
+
+var replyWords = [...]string{Placed: "placed", Dropped: "dropped", Granted: "granted", Idle: "idle", Ended: "ended",
+	Changed: "changed", Refused: "refused", Ticked: "ticked", Placed6: "placed"}
+
+// The refusals that the service itself has to tell apart. docs/RULES.md has all of them.
+const (
+	NoLawfulNode  = 103
+	AlreadyLeased = 110
+	Unrecoverable = 112
+	NotHolder     = 114
+)
+
+// The refusals with a detail that is printed.
+var detailed = map[uint8]bool{103: true, 107: true, 109: true, 110: true, 114: true, 115: true, 117: true}
+
+// A Repair has the numbers of lrc_repair.
+type Repair uint8
+
+// What a fragment is rebuilt from.
+const (
+	Local  Repair = 1 // the six others of its group, in a wide stripe
+	Global Repair = 2
+	Move   Repair = 3
+	Local3 Repair = 4 // the three others of its group, in a narrow stripe
+)
+
+var repairWords = [...]string{0: "", Local: "local", Global: "global", Move: "move", Local3: "local"}
+
+// String is the word for the repair; a local one has the same word in both codes.
+func (r Repair) String() string { return repairWords[r] }
+
+func (r Repair) sources() int {
+	return [...]int{Local: 6, Local3: 3, Global: 0, Move: 0, 0: 0}[r]
+}
+
+// A Seat is a slot of a node.
+type Seat struct{ Node, Slot uint16 }
+
+// String writes NODE:SLOT.
+func (s Seat) String() string { return fmt.Sprintf("%d:%d", s.Node, s.Slot) }
+
+// A LeaseRow has the layout of lrc_lease.
+type LeaseRow struct {
+	Stripe   uint16
+	Fragment uint8
+	Holder   uint8
+	Target   Seat
+	Epoch    uint32
+	Expiry   uint32
+}
+
+// A Reply has the layout of lrc_reply. What its kind does not use is 0.
+type Reply struct {
+	Kind    ReplyKind
+	Refusal uint8
+	Repair  Repair
+	Sources [6]uint8
+	_       [3]uint8
+	Detail  uint32
+	Clock   uint32
+	Ended   uint32
+	_       uint32
+	Lease   LeaseRow
+	Seats   [Fragments]Seat
+}
+
+// An Entry has the layout of lrc_entry: a command of a session, and its reply.
+type Entry struct {
+	Session uint8
+	_       [3]uint8
+	Command Command
+	Reply   Reply
+}
+
+// OfNotHolder is the refusal of docs/RULES.md for a caller who does not hold the lease that a session has.
+func OfNotHolder(session uint8) Reply {
+	return Reply{Kind: Refused, Refusal: NotHolder, Detail: uint32(session)}
+}
+
+// word is that of the reply's kind.
+func (r *Reply) word() string { return replyWords[r.Kind] }
+
+func (r *Reply) seats() []Seat {
+	switch r.Kind {
+	case Placed:
+		return r.Seats[:]
+	case Placed6:
+		return r.Seats[:NarrowFragments]
+	}
+	return nil
+}
+
+func (r *Reply) sources() []uint8 { return r.Sources[:r.Repair.sources()] }
+
+// String is the reply as `lrcman run` prints it, without the number of its entry.
+func (r *Reply) String() string {
+	words := []string{r.word()}
+	switch r.Kind {
+	case Placed, Placed6:
+		for _, seat := range r.seats() {
+			words = append(words, seat.String())
+		}
+	case Granted:
+		lease := r.Lease
+		words = append(words, fmt.Sprintf("%d %d %v epoch %d %v", lease.Stripe, lease.Fragment, lease.Target, lease.Epoch, r.Repair))
+		for _, source := range r.sources() {
+			words = append(words, strconv.Itoa(int(source)))
+		}
+	case Ticked:
+		words = append(words, fmt.Sprintf("%d %d", r.Clock, r.Ended))
+	case Refused:
+		words = append(words, strconv.Itoa(int(r.Refusal)))
+		if detailed[r.Refusal] {
+			words = append(words, strconv.Itoa(int(r.Detail)))
+		}
+	}
+	return strings.Join(words, " ")
+}
+
+// A Spoken is a reply as JSON has it: its line, and the same in numbers. What the kind lacks is left out.
+type Spoken struct {
+	Reply    string     `json:"reply"`
+	Kind     string     `json:"kind"`
+	Seats    []JSONSeat `json:"seats,omitempty"`
+	Stripe   *uint16    `json:"stripe,omitempty"`
+	Fragment *uint8     `json:"fragment,omitempty"`
+	Target   *JSONSeat  `json:"target,omitempty"`
+	Epoch    uint32     `json:"epoch,omitempty"`
+	Repair   string     `json:"repair,omitempty"`
+	Sources  Numbers    `json:"sources,omitempty"`
+	Clock    *uint32    `json:"clock,omitempty"`
+	Ended    *uint32    `json:"ended,omitempty"`
+	Refusal  uint8      `json:"refusal,omitempty"`
+	Name     string     `json:"name,omitempty"`
+	Detail   *uint32    `json:"detail,omitempty"`
+}
+
+// A JSONSeat is a seat as JSON has it.
+type JSONSeat struct {
+	Node uint16 `json:"node"`
+	Slot uint16 `json:"slot"`
+}
+
+// Numbers are small numbers, which JSON has as a list and not as the text of bytes.
+type Numbers []uint8
+
+// MarshalJSON writes a list of numbers.
+func (n Numbers) MarshalJSON() ([]byte, error) {
+	text := []byte{'['}
+	for i, number := range n {
+		if i > 0 {
+			text = append(text, ',')
+		}
+		text = strconv.AppendUint(text, uint64(number), 10)
+	}
+	return append(text, ']'), nil
+}
+
+// Speak returns the reply in words and numbers.
+func (r *Reply) Speak() Spoken {
+	spoken := Spoken{Reply: r.String(), Kind: r.word()}
+	for _, seat := range r.seats() {
+		spoken.Seats = append(spoken.Seats, JSONSeat(seat))
+	}
+	switch r.Kind {
+	case Granted:
+		lease, target := r.Lease, JSONSeat(r.Lease.Target)
+		spoken.Stripe, spoken.Fragment, spoken.Target, spoken.Epoch = &lease.Stripe, &lease.Fragment, &target, lease.Epoch
+		spoken.Repair, spoken.Sources = r.Repair.String(), r.sources()
+	case Ticked:
+		clock, ended := r.Clock, r.Ended
+		spoken.Clock, spoken.Ended = &clock, &ended
+	case Refused:
+		spoken.Refusal, spoken.Name = r.Refusal, RefusalName(r.Refusal)
+		if detailed[r.Refusal] {
+			detail := r.Detail
+			spoken.Detail = &detail
+		}
+	}
+	return spoken
+}

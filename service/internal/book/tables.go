@@ -1,0 +1,514 @@
+package book
+
+import (
+	"bytes"
+	"encoding/json"
+	"fmt"
+	"math/bits"
+	"sort"
+	"strconv"
+	"strings"
+)
+
+// A Table has the columns and rows that `lrcman show`, `may-stop` and `may-lose` print.
+type Table struct {
+	Columns []string
+	Rows    [][]Cell
+}
+
+// A Cell is a field of a table, which CSV and JSON write otherwise.
+type Cell interface {
+	csv() string
+	json() interface{}
+}
+
+type (
+	number   uint64
+	word     string
+	yesNo    bool
+	mask     uint16
+	numbers  []uint8
+	nothing  string // what CSV writes where there is nothing; JSON has null
+	position Seat
+)
+
+func (n number) csv() string       { return strconv.FormatUint(uint64(n), 10) }
+func (n number) json() interface{} { return uint64(n) }
+func (w word) csv() string         { return string(w) }
+func (w word) json() interface{}   { return string(w) }
+func (y yesNo) csv() string        { return map[yesNo]string{false: "no", true: "yes"}[y] }
+func (y yesNo) json() interface{}  { return bool(y) }
+func (m mask) csv() string         { return fmt.Sprintf("0x%04x", uint16(m)) }
+func (m mask) json() interface{}   { return m.csv() }
+func (n nothing) csv() string      { return string(n) }
+func (n nothing) json() interface{} {
+	return nil
+}
+func (p position) csv() string       { return Seat(p).String() }
+func (p position) json() interface{} { return Seat(p).String() }
+func (l numbers) json() interface{}  { return Numbers(l) }
+func (l numbers) csv() string {
+	words := make([]string, len(l))
+	for i, n := range l {
+		words[i] = strconv.Itoa(int(n))
+	}
+	return strings.Join(words, " ")
+}
+
+// CSV is the table as the program prints it.
+func (t *Table) CSV() []byte {
+	var text bytes.Buffer
+	text.WriteString(strings.Join(t.Columns, ",") + "\n")
+	for _, row := range t.Rows {
+		for i, cell := range row {
+			if i > 0 {
+				text.WriteByte(',')
+			}
+			text.WriteString(cell.csv())
+		}
+		text.WriteByte('\n')
+	}
+	return text.Bytes()
+}
+
+// MarshalJSON writes a list with an object for each row, whose fields are the columns.
+func (t *Table) MarshalJSON() ([]byte, error) {
+	var text bytes.Buffer
+	text.WriteByte('[')
+	for i, row := range t.Rows {
+		if i > 0 {
+			text.WriteByte(',')
+		}
+		for j, cell := range row {
+			value, err := json.Marshal(cell.json())
+			if err != nil {
+				return nil, err
+			}
+			text.WriteByte("{,"[min(j, 1)])
+			fmt.Fprintf(&text, "%q:%s", t.Columns[j], value)
+		}
+		text.WriteByte('}')
+	}
+	text.WriteByte(']')
+	return text.Bytes(), nil
+}
+
+func min(a, b int) int {
+	if a < b {
+		return a
+	}
+	return b
+}
+
+// A Draft is what a table is made of. It is taken while nobody else uses the book, which is short; the table is made of it
+// later, beside other calls.
+type Draft func() *Table
+
+// Views are the tables that Show makes.
+var Views = []string{"status", "stripes", "nodes", "leases", "work"}
+
+// Show takes what one of the tables of docs/FORMATS.md, "Output of show", is made of.
+func (b *Book) Show(view string) (Draft, error) {
+	switch view {
+	case "status":
+		return b.showStatus()
+	case "stripes":
+		return b.showStripes()
+	case "nodes":
+		return b.showNodes()
+	case "leases":
+		return b.showLeases()
+	case "work":
+		return b.showWork()
+	}
+	return nil, fmt.Errorf("there is no table %q", view)
+}
+
+// membersOf lists the fragments of a set.
+func membersOf(set uint16) numbers {
+	list := numbers{}
+	for f := uint8(0); f < Fragments; f++ {
+		if set>>f&1 == 1 {
+			list = append(list, f)
+		}
+	}
+	return list
+}
+
+// margin is how many further losses a stripe survives, whichever they are.
+func margin(level Level) Cell {
+	switch level.Kind {
+	case Whole:
+		return number(3)
+	case AtRisk:
+		return number(level.Margin)
+	}
+	return nothing("-")
+}
+
+// rank orders stripes by repair: the least first.
+func rank(level Level) int {
+	switch level.Kind {
+	case AtRisk:
+		return int(level.Margin)
+	case Whole:
+		return 3
+	}
+	return 4
+}
+
+// homeless are the fragments without any home.
+func homeless(code Code, homes *[Fragments]Home) uint16 {
+	set := uint16(0)
+	for f := 0; f < code.Fragments(); f++ {
+		if homes[f].IsThere == 0 {
+			set |= 1 << f
+		}
+	}
+	return set
+}
+
+// counts are the rows of `show status`, by their names.
+type counts map[string]int
+
+var statusNames = []string{"stripes", "whole", "at_risk_margin_2", "at_risk_margin_1", "at_risk_margin_0",
+	"unavailable", "lost", "missing_fragments", "homeless_fragments", "leases", "held_seats", "slots", "nodes_active", "nodes_draining", "nodes_gone",
+	"nodes_down", "nodes_online"}
+
+func (c counts) stripe(row StripeRow, homeless uint16) {
+	c["stripes"]++
+	if row.Level.Kind == AtRisk {
+		c[fmt.Sprintf("at_risk_margin_%d", row.Level.Margin)]++
+	} else {
+		c[row.Level.Kind.String()]++
+	}
+	c["missing_fragments"] += bits.OnesCount16(row.Missing)
+	c["homeless_fragments"] += bits.OnesCount16(homeless)
+}
+
+func (c counts) node(row NodeRow) {
+	c["held_seats"] += int(row.Load)
+	c["slots"] += int(row.Slots)
+	c["nodes_"+row.Mode.String()]++
+	c["nodes_down"] += int(row.IsDown)
+	c["nodes_online"] += int(row.IsOnline)
+}
+
+func (b *Book) showStatus() (Draft, error) {
+	found := counts{}
+	stripes, err := b.StripeRows()
+	if err != nil {
+		return nil, err
+	}
+	for _, row := range stripes {
+		homes, err := b.Homes(row.Stripe)
+		if err != nil {
+			return nil, err
+		}
+		found.stripe(row, homeless(row.Code, &homes))
+	}
+	nodes, err := b.NodeRows()
+	if err != nil {
+		return nil, err
+	}
+	for _, row := range nodes {
+		found.node(row)
+	}
+	leases, err := b.LeaseRows()
+	if err != nil {
+		return nil, err
+	}
+	found["leases"] = len(leases)
+	upgrading := Cell(word("none"))
+	if domain, ok := b.Upgrading(); ok {
+		upgrading = number(domain)
+	}
+	clock, made := b.Clock(), b.Made()
+	return func() *Table {
+		table := &Table{Columns: []string{"name", "value"}}
+		for _, name := range statusNames {
+			table.add(word(name), number(found[name]))
+		}
+		table.add(word("upgrading"), upgrading)
+		table.add(word("clock"), number(clock))
+		table.add(word("entries"), number(made))
+		return table
+	}, nil
+}
+
+func (t *Table) add(cells ...Cell) { t.Rows = append(t.Rows, cells) }
+
+var stripeColumns = func() []string {
+	columns := []string{"stripe", "code", "level", "margin", "missing", "missing_fragments", "homeless", "homeless_fragments"}
+	for f := 0; f < Fragments; f++ {
+		columns = append(columns, fmt.Sprintf("home_%d", f))
+	}
+	return columns
+}()
+
+// A placed stripe is its row and its homes.
+type placed struct {
+	row   StripeRow
+	homes [Fragments]Home
+}
+
+func (p *placed) cells() []Cell {
+	row, gone := p.row, homeless(p.row.Code, &p.homes)
+	cells := []Cell{number(row.Stripe), word(row.Code.String()), word(row.Level.Kind.String()), margin(row.Level),
+		mask(row.Missing), membersOf(row.Missing), mask(gone), membersOf(gone)}
+	for f, home := range p.homes {
+		switch {
+		case f >= row.Code.Fragments():
+			cells = append(cells, nothing(""))
+		case home.IsThere == 0:
+			cells = append(cells, nothing("-"))
+		default:
+			cells = append(cells, position(home.Seat))
+		}
+	}
+	return cells
+}
+
+func (b *Book) draftOf(rows []StripeRow) (Draft, error) {
+	stripes := make([]placed, len(rows))
+	for i, row := range rows {
+		homes, err := b.Homes(row.Stripe)
+		if err != nil {
+			return nil, err
+		}
+		stripes[i] = placed{row, homes}
+	}
+	return func() *Table {
+		table := &Table{Columns: stripeColumns}
+		for i := range stripes {
+			table.add(stripes[i].cells()...)
+		}
+		return table
+	}, nil
+}
+
+// ShowStripe takes the row of one stripe in the table of stripes.
+func (b *Book) ShowStripe(stripe uint16) (Draft, error) {
+	row, err := b.Stripe(stripe)
+	if err != nil {
+		return nil, err
+	}
+	return b.draftOf([]StripeRow{row})
+}
+
+func (b *Book) showStripes() (Draft, error) {
+	rows, err := b.StripeRows()
+	if err != nil {
+		return nil, err
+	}
+	return b.draftOf(rows)
+}
+
+func (b *Book) showNodes() (Draft, error) {
+	rows, err := b.NodeRows()
+	if err != nil {
+		return nil, err
+	}
+	leases, err := b.LeaseRows()
+	if err != nil {
+		return nil, err
+	}
+	domain, isUpgrading := b.Upgrading()
+	return func() *Table {
+		targets := map[uint16]uint32{}
+		for _, lease := range leases {
+			targets[lease.Target.Node]++
+		}
+		table := &Table{Columns: []string{"node", "fault", "upgrade", "mode", "down", "upgrading", "online", "homes", "targets",
+			"load", "slots"}}
+		for _, row := range rows {
+			held := targets[row.Number]
+			table.add(number(row.Number), number(row.Fault), number(row.Upgrade), word(row.Mode.String()), yesNo(row.IsDown == 1),
+				yesNo(isUpgrading && row.Upgrade == domain), yesNo(row.IsOnline == 1), number(row.Load-held), number(held),
+				number(row.Load), number(row.Slots))
+		}
+		return table
+	}, nil
+}
+
+func (b *Book) showLeases() (Draft, error) {
+	rows, err := b.LeaseRows()
+	return func() *Table {
+		table := &Table{Columns: []string{"stripe", "fragment", "holder", "target", "epoch", "expiry"}}
+		for _, row := range rows {
+			table.add(number(row.Stripe), number(row.Fragment), number(row.Holder), position(row.Target), number(row.Epoch),
+				number(row.Expiry))
+		}
+		return table
+	}, err
+}
+
+// A job is a fragment that needs a lease.
+type job struct {
+	stripe   uint16
+	fragment uint8
+	plan     Plan
+	reads    int      // the number of fragments that the repair reads; 0 if what is left does not determine the fragment
+	lease    LeaseRow // with epoch 0 if there is none
+	standing string
+}
+
+func (j *job) cells() []Cell {
+	plan := j.plan
+	cells := []Cell{number(j.stripe), number(j.fragment), word(plan.Repair.String()),
+		numbers(plan.Sources[:plan.Repair.sources()]), nothing(""), word(j.standing)}
+	if j.reads > 0 {
+		cells[4] = number(j.reads)
+	}
+	if j.lease.Epoch == 0 {
+		return append(cells, nothing(""), nothing(""))
+	}
+	return append(cells, number(j.lease.Holder), number(j.lease.Epoch))
+}
+
+func (b *Book) showWork() (Draft, error) {
+	jobs, err := b.jobs()
+	return func() *Table {
+		table := &Table{Columns: []string{"stripe", "fragment", "kind", "sources", "reads", "standing", "holder", "epoch"}}
+		for i := range jobs {
+			table.add(jobs[i].cells()...)
+		}
+		return table
+	}, err
+}
+
+// jobs are the fragments that need a lease, in the order of repair.
+func (b *Book) jobs() ([]job, error) {
+	nodes, err := b.NodeRows()
+	if err != nil {
+		return nil, err
+	}
+	isDraining := false
+	for _, node := range nodes {
+		isDraining = isDraining || node.Mode == Draining
+	}
+	rows, err := b.StripeRows()
+	if err != nil {
+		return nil, err
+	}
+	sort.SliceStable(rows, func(i, j int) bool { return rank(rows[i].Level) < rank(rows[j].Level) })
+	var jobs []job
+	for _, row := range rows {
+		if row.Level.Kind == Whole && !isDraining {
+			continue // no fragment of it is homeless, and none is to be moved
+		}
+		for f := uint8(0); int(f) < row.Code.Fragments(); f++ {
+			it, err := b.job(row, f)
+			if err != nil && !IsUnknown(err) {
+				return nil, err
+			} else if err == nil {
+				jobs = append(jobs, it)
+			}
+		}
+	}
+	return jobs, nil
+}
+
+// job tells how a fragment is repaired; unknown if it needs no lease.
+func (b *Book) job(row StripeRow, fragment uint8) (it job, err error) {
+	stripe := row.Stripe
+	it = job{stripe: stripe, fragment: fragment, standing: "leased"}
+	if it.plan, err = b.Repair(stripe, fragment); err != nil {
+		return it, err
+	}
+	it.reads = readsOf(it.plan.Repair, row)
+	if it.lease, err = b.Lease(stripe, fragment); err == nil || !IsUnknown(err) {
+		return it, err
+	}
+	reply, err := b.Peek(1, Command{Kind: Lease, Stripe: stripe, Fragment: fragment})
+	it.standing = map[uint8]string{0: "open", NoLawfulNode: "no_node", Unrecoverable: "unrecoverable"}[reply.Refusal]
+	return it, err
+}
+
+// readsOf is the number of fragments that a repair reads: those of its local group, the fragment itself for a move, or else as
+// many as the stripe has data fragments, if its missing fragments are recoverable.
+func readsOf(repair Repair, row StripeRow) int {
+	switch {
+	case repair.sources() > 0:
+		return repair.sources()
+	case repair == Move:
+		return 1
+	case row.Level.Kind == Whole || row.Level.Kind == AtRisk:
+		return row.Code.Fragments() - parities
+	}
+	return 0
+}
+
+// An Unknown says that an outage names a node or a domain that there is not.
+type Unknown struct {
+	What   string
+	Number uint64
+}
+
+// Error has the words of docs/FORMATS.md.
+func (u *Unknown) Error() string {
+	if u.What == "node" {
+		return fmt.Sprintf("there is no such node: node %d", u.Number)
+	}
+	return fmt.Sprintf("no node is in this %s domain: %s %d", u.What, u.What, u.Number)
+}
+
+// Who are the nodes that an outage is about: some by number, and all of some domains.
+type Who struct {
+	Nodes    []uint16
+	Faults   []uint8
+	Upgrades []uint8
+}
+
+func (b *Book) nodesOf(who Who) ([]uint16, error) {
+	rows, err := b.NodeRows()
+	if err != nil {
+		return nil, err
+	}
+	byNumber, byFault, byUpgrade := map[uint16]bool{}, map[uint8][]uint16{}, map[uint8][]uint16{}
+	for _, row := range rows {
+		byNumber[row.Number] = true
+		byFault[row.Fault] = append(byFault[row.Fault], row.Number)
+		byUpgrade[row.Upgrade] = append(byUpgrade[row.Upgrade], row.Number)
+	}
+	var nodes []uint16
+	for _, node := range who.Nodes {
+		if !byNumber[node] {
+			return nil, &Unknown{"node", uint64(node)}
+		}
+		nodes = append(nodes, node)
+	}
+	for _, domain := range who.Faults {
+		if byFault[domain] == nil {
+			return nil, &Unknown{"fault", uint64(domain)}
+		}
+		nodes = append(nodes, byFault[domain]...)
+	}
+	for _, domain := range who.Upgrades {
+		if byUpgrade[domain] == nil {
+			return nil, &Unknown{"upgrade", uint64(domain)}
+		}
+		nodes = append(nodes, byUpgrade[domain]...)
+	}
+	return nodes, nil
+}
+
+// ShowForecast takes what the table of docs/FORMATS.md, "Output of may-stop and may-lose", is made of, and tells whether no
+// stripe is harmed.
+func (b *Book) ShowForecast(outage Outage, who Who) (Draft, bool, error) {
+	nodes, err := b.nodesOf(who)
+	if err != nil {
+		return nil, false, err
+	}
+	rows, isSafe, err := b.Forecast(outage, nodes)
+	return func() *Table {
+		table := &Table{Columns: []string{"stripe", "code", "level_before", "margin_before", "level_after", "margin_after",
+			"missing_after", "missing_fragments_after", "leases_ended", "harmed"}}
+		for _, row := range rows {
+			table.add(number(row.Stripe), word(row.Code.String()), word(row.Before.Kind.String()), margin(row.Before),
+				word(row.After.Kind.String()), margin(row.After), mask(row.Missing), membersOf(row.Missing),
+				number(row.LeasesEnded), yesNo(row.IsHarmed == 1))
+		}
+		return table
+	}, isSafe, err
+}

@@ -1,0 +1,191 @@
+// Package ctl is `lrcmand ctl`: questions and commands to a service from a terminal.
+package ctl
+
+import (
+	"context"
+	"errors"
+	"flag"
+	"fmt"
+	"io"
+	"os"
+	"os/signal"
+	"strings"
+	"syscall"
+	"time"
+)
+
+// The statuses that ctl ends with.
+const (
+	Done    = 0
+	Failed  = 1 // nobody answered, or the service could not do it
+	Usage   = 2 // the words are not those of a command
+	Refused = 3 // the rules refused a command
+	Harm    = 4 // a stripe would be harmed
+)
+
+type options struct {
+	server, tokenFile, ca, cert, key, output string
+	session                                  uint64
+	worker, callKey                          string
+	from                                     string
+	now, noWait                              bool
+	timeout                                  time.Duration
+}
+
+// A usage error is about the words of the command line.
+type usageError string
+
+func (u usageError) Error() string { return string(u) }
+
+func usagef(form string, values ...interface{}) error {
+	return usageError(fmt.Sprintf(form, values...))
+}
+
+// errRefused and errHarm end with a status of their own; what there is to say was printed.
+var (
+	errRefused = errors.New("the command is refused")
+	errHarm    = errors.New("a stripe would be harmed")
+)
+
+const help = `usage: lrcmand ctl [OPTIONS] COMMAND
+
+  status                        the member that answers, and each book in a line
+  books                         the books
+  members                       the members of the group
+  table BOOK WHAT               WHAT: status, stripes, nodes, leases, work or workers
+  call BOOK COMMAND..           one command, as: call p0 lease 17 3
+  ok-to-stop BOOK NODE..        status 0: these may be stopped at once; 4: a stripe would be harmed.
+                                fault N.. and upgrade N.. name whole domains
+  drain BOOK NODE               drains a node and waits until it is empty
+  watch BOOK                    follows the book's log
+
+Options stand before or behind the command:
+`
+
+// command is one of the words of ctl, with the least and the greatest number of words behind it; -1: any.
+type command struct {
+	least, most int
+	run         func(*session, []string) error
+}
+
+var commands map[string]command
+
+func init() {
+	commands = map[string]command{"status": {0, 0, (*session).status}, "books": {0, 0, (*session).books}, "members": {0, 0, (*session).members},
+		"table": {2, 2, (*session).table}, "call": {2, -1, (*session).call}, "ok-to-stop": {2, -1, (*session).okToStop},
+		"drain": {2, 2, (*session).drain}, "watch": {1, 1, (*session).watch}}
+}
+
+// A session is one run of ctl.
+type session struct {
+	*client
+	*options
+	ctx context.Context
+	out io.Writer
+	err io.Writer
+}
+
+// Main runs `lrcmand ctl` with these words and returns the status.
+func Main(words []string, out, err io.Writer) int {
+	ctx, stop := signal.NotifyContext(context.Background(), os.Interrupt, syscall.SIGTERM)
+	defer stop()
+	return Run(ctx, words, out, err)
+}
+
+// Run is Main, and ends with a context too.
+func Run(ctx context.Context, words []string, out, to io.Writer) int {
+	err := run(ctx, words, out, to)
+	var ofUsage usageError
+	switch {
+	case err == nil:
+		return Done
+	case errors.Is(err, flag.ErrHelp):
+		return Done
+	case errors.Is(err, errRefused):
+		return Refused
+	case errors.Is(err, errHarm):
+		return Harm
+	case errors.As(err, &ofUsage):
+		fmt.Fprintf(to, "lrcmand ctl: %v (lrcmand ctl --help tells the usage)\n", err)
+		return Usage
+	}
+	fmt.Fprintf(to, "lrcmand ctl: %v\n", err)
+	return Failed
+}
+
+func run(ctx context.Context, words []string, out, to io.Writer) error {
+	o := &options{}
+	rest, err := o.parse(words, out)
+	if err != nil {
+		return err
+	}
+	if len(rest) == 0 {
+		return usagef("a command is missing")
+	}
+	found, ok := commands[rest[0]]
+	if !ok {
+		return usagef("there is no command %q", rest[0])
+	}
+	given := rest[1:]
+	if len(given) < found.least || found.most >= 0 && len(given) > found.most {
+		return usagef("%s takes another number of words", rest[0])
+	}
+	c, err := newClient(o)
+	if err != nil {
+		return err
+	}
+	return found.run(&session{c, o, ctx, out, to}, given)
+}
+
+// parse takes the options out of the words, wherever they stand, and returns the others.
+func (o *options) parse(words []string, out io.Writer) ([]string, error) {
+	server := os.Getenv("LRCMAND_SERVER")
+	if server == "" {
+		server = "http://127.0.0.1:7421"
+	}
+	flags := flag.NewFlagSet("lrcmand ctl", flag.ContinueOnError)
+	flags.SetOutput(io.Discard)
+	flags.StringVar(&o.server, "server", server, "`URL` of a member, or several with commas between; also LRCMAND_SERVER")
+	flags.StringVar(&o.tokenFile, "token-file", os.Getenv("LRCMAND_TOKEN_FILE"), "`FILE` with the token; also LRCMAND_TOKEN_FILE")
+	flags.StringVar(&o.ca, "ca", "", "`FILE` with the certificates of who signs those of members")
+	flags.StringVar(&o.cert, "cert", "", "`FILE` with a certificate to be shown")
+	flags.StringVar(&o.key, "key", "", "`FILE` with its key")
+	flags.StringVar(&o.output, "o", "text", "text or json")
+	flags.Uint64Var(&o.session, "session", 1, "`N` of the session of calls, 1 to 8")
+	flags.StringVar(&o.worker, "worker", "", "`NAME` of the worker who calls")
+	flags.StringVar(&o.callKey, "call-key", "", "`KEY` of the call; by default a random one")
+	flags.StringVar(&o.from, "from", "", "`N`: watch shows the entries behind this number; by default those to come")
+	flags.BoolVar(&o.now, "now", false, "tables have all that was told before; ok-to-stop always has")
+	flags.BoolVar(&o.noWait, "no-wait", false, "drain does not wait until the node is empty")
+	flags.DurationVar(&o.timeout, "timeout", 20*time.Second, "how long members are asked before it is given up")
+	rest := []string{}
+	for {
+		if err := flags.Parse(words); errors.Is(err, flag.ErrHelp) {
+			fmt.Fprint(out, help)
+			flags.SetOutput(out)
+			flags.PrintDefaults()
+			return nil, err
+		} else if err != nil {
+			return nil, usageError(err.Error())
+		}
+		if words = flags.Args(); len(words) == 0 {
+			break
+		}
+		rest, words = append(rest, words[0]), words[1:]
+	}
+	if o.output != "text" && o.output != "json" {
+		return nil, usagef("-o takes text or json, and not %q", o.output)
+	}
+	if o.session < 1 || o.session > 8 {
+		return nil, usagef("--session is 1 to 8")
+	}
+	return rest, nil
+}
+
+func (s *session) isJSON() bool { return s.output == "json" }
+
+// show prints a body as it came, behind which an end of line stands.
+func (s *session) show(text []byte) error {
+	_, err := fmt.Fprintln(s.out, strings.TrimRight(string(text), "\n"))
+	return err
+}

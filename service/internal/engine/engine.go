@@ -1,0 +1,82 @@
+// Package engine says what the service wants of a log that the members of a group keep alike.
+package engine
+
+import (
+	"context"
+	"errors"
+	"io"
+)
+
+// A Machine is what a log drives. Its methods, but for the function that Freeze returns, are called one after the other.
+type Machine interface {
+	// Apply makes the changes of an entry, and returns what the proposer of this member is told. Indexes rise. After an
+	// error the engine ends: this member is not what the others are.
+	Apply(index uint64, payload []byte) (interface{}, error)
+	// Freeze returns a function that writes the state, or a later one. It may run beside Apply.
+	Freeze() func(io.Writer) error
+	// Restore begins in what such a function wrote. After an error the machine is as it was. The error wraps ErrDamaged if
+	// the bytes are not those that were written.
+	Restore(io.Reader) error
+}
+
+// MostID is the greatest number of a member. (Numbers of proposals have 16 bits for it)
+const MostID = 1<<16 - 1
+
+// A Member of a group.
+type Member struct {
+	ID     uint64 `json:"id"`
+	Peer   string `json:"peer"`   // HOST:PORT for the other members
+	Client string `json:"client"` // HOST:PORT for clients
+}
+
+// A Status is how one member sees the group.
+type Status struct {
+	ID       uint64   `json:"id"`
+	Leader   uint64   `json:"leader"` // 0: none
+	Term     uint64   `json:"term"`
+	Commit   uint64   `json:"commit"`
+	Applied  uint64   `json:"applied"`
+	Snapshot uint64   `json:"snapshot"` // the index of the last one
+	First    uint64   `json:"first"`    // the first entry that this member still sends to others
+	Members  []Member `json:"members"`
+}
+
+var (
+	// ErrUnknown says that an entry may or may not come to stand in the log.
+	ErrUnknown = errors.New("nobody knows whether it was made")
+	// ErrNoLeader says that nothing was proposed, or asked.
+	ErrNoLeader = errors.New("there is no leader")
+	// ErrEnded says that this member has ended, or is ending.
+	ErrEnded = errors.New("this member has ended")
+	// ErrRemoved says that a member ended since it is no longer one of the group.
+	ErrRemoved = errors.New("this member was removed from its group")
+	// ErrDamaged says that a snapshot is not as it was written.
+	ErrDamaged = errors.New("the snapshot is damaged")
+	// ErrBusy says that a snapshot is being written already.
+	ErrBusy = errors.New("a snapshot is being written")
+)
+
+// A Refused says why a change of members is not made.
+type Refused string
+
+// Error is the reason.
+func (r Refused) Error() string { return string(r) }
+
+// An Engine is a log, kept alike by the members of a group, that drives a machine.
+type Engine interface {
+	// Propose brings a payload into the log, and returns what Apply told on this member.
+	Propose(ctx context.Context, payload []byte) (interface{}, error)
+	// Barrier returns when this member has applied all that any member told before Barrier was called.
+	Barrier(ctx context.Context) error
+	// Status is how this member sees the group now.
+	Status() Status
+	// Add adds a member, and Remove removes one. The error is a Refused if the change is not lawful.
+	Add(ctx context.Context, member Member) error
+	Remove(ctx context.Context, id uint64) error
+	// Snapshot begins to write one now.
+	Snapshot() error
+	// Done is closed when the engine has ended, by Close or by itself, and Err says why; nil after Close.
+	Done() <-chan struct{}
+	Err() error
+	Close()
+}

@@ -1,0 +1,257 @@
+package raftlog
+
+import (
+	"encoding/binary"
+	"errors"
+	"fmt"
+	"io"
+	"log"
+	"os"
+	"path/filepath"
+	"strings"
+	"sync/atomic"
+
+	"go.etcd.io/etcd/etcdserver/api/snap"
+	"go.etcd.io/etcd/pkg/fileutil"
+	"go.etcd.io/etcd/raft"
+	"go.etcd.io/etcd/raft/raftpb"
+	"go.etcd.io/etcd/wal"
+	"go.etcd.io/etcd/wal/walpb"
+	"go.uber.org/zap"
+
+	"lrcman/service/internal/engine"
+)
+
+func init() {
+	wal.SegmentSizeBytes = 16 << 20 // (two are allocated in advance)
+	raft.SetLogger(quiet{&raft.DefaultLogger{Logger: log.New(io.Discard, "", 0)}})
+}
+
+// logToNobody keeps etcd's parts quiet: errors come back as errors, and panics still end the process.
+func (n *Node) logToNobody() error {
+	cfg := zap.NewProductionConfig()
+	cfg.Level = zap.NewAtomicLevelAt(zap.FatalLevel)
+	var err error
+	n.zap, err = cfg.Build()
+	return err
+}
+
+type quiet struct{ *raft.DefaultLogger }
+
+func (quiet) Panic(v ...interface{})               { log.Panic(v...) }
+func (quiet) Panicf(form string, v ...interface{}) { log.Panicf(form, v...) }
+func (quiet) Fatal(v ...interface{})               { log.Fatal(v...) }
+func (quiet) Fatalf(form string, v ...interface{}) { log.Fatalf(form, v...) }
+
+// takeFolder makes the folder, and keeps every other process out of it.
+func (n *Node) takeFolder() error {
+	if err := os.MkdirAll(n.snapFolder(), 0o700); err != nil {
+		return err
+	}
+	lock, err := fileutil.TryLockFile(filepath.Join(n.cfg.Dir, "lock"), os.O_WRONLY|os.O_CREATE, 0o600)
+	if err == fileutil.ErrLocked {
+		return fmt.Errorf("another process has the folder %s", n.cfg.Dir)
+	} else if err != nil {
+		return err
+	}
+	n.lock = lock
+	n.snaps = snap.New(n.zap, n.snapFolder())
+	left, err := filepath.Glob(filepath.Join(n.snapFolder(), "tmp*"))
+	for _, file := range left { // snapshots that were half written when the process ended
+		os.Remove(file)
+	}
+	return err
+}
+
+// metadata stands at the head of the log: whose it is.
+func (n *Node) metadata() []byte {
+	b := make([]byte, 16)
+	binary.LittleEndian.PutUint64(b, n.cfg.Self.ID)
+	binary.LittleEndian.PutUint64(b[8:], n.cfg.Group)
+	return b
+}
+
+// openLog goes on with the folder's log, or makes one. It tells whether there was one with something in it.
+func (n *Node) openLog() (isOld bool, err error) {
+	if wal.Exist(n.logFolder()) {
+		if isOld, err = n.load(); err != nil || isOld {
+			return isOld, err
+		}
+		// Killed in its first moments: it has promised nothing, and without its first entries it would wait for ever.
+		n.wal.Close()
+		n.storage = raft.NewMemoryStorage()
+		if err := os.RemoveAll(n.logFolder()); err != nil {
+			return false, err
+		}
+	}
+	n.wal, err = wal.Create(n.zap, n.logFolder(), n.metadata())
+	return false, err
+}
+
+// load begins in the newest snapshot that is whole, and reads the log behind it. It returns false if the log has no hard
+// state: then no vote was given, and nothing acknowledged.
+func (n *Node) load() (bool, error) {
+	newest, err := n.loadSnapshot()
+	if err != nil {
+		return false, err
+	}
+	hard, entries, err := n.readLog(newest)
+	if err != nil {
+		return false, err
+	}
+	if err := n.storage.SetHardState(hard); err != nil {
+		return false, err
+	}
+	atomic.StoreUint64(&n.term, hard.Term)
+	atomic.StoreUint64(&n.commit, hard.Commit)
+	return newest != nil || !raft.IsEmptyHardState(hard), n.storage.Append(entries)
+}
+
+// loadSnapshot begins in the newest snapshot that the log knows of and that is whole; nil if there is none. A snapshot's file
+// may be there before its record is.
+func (n *Node) loadSnapshot() (*raftpb.Snapshot, error) {
+	known, err := wal.ValidSnapshotEntries(n.zap, n.logFolder())
+	if err != nil {
+		return nil, fmt.Errorf("the log is damaged: %w. Remove this member, and add one with an empty folder", err)
+	}
+	newest := uint64(0)
+	for _, record := range known {
+		newest = record.Index // (they rise)
+	}
+	for {
+		found, err := n.snaps.LoadNewestAvailable(known) // (it renames what is damaged)
+		if err == snap.ErrNoSnapshot {
+			n.sayOlder(0, newest)
+			return nil, nil
+		} else if err != nil {
+			return nil, err
+		}
+		err = n.restore(found.Metadata)
+		if err == nil {
+			n.sayOlder(found.Metadata.Index, newest)
+			return found, n.storage.ApplySnapshot(*found)
+		} else if !errors.Is(err, engine.ErrDamaged) && !errors.Is(err, os.ErrNotExist) {
+			return nil, err
+		}
+		n.cfg.Log.Printf("snapshot at %d: %v; its name ends with .broken now", found.Metadata.Index, err)
+		if err := n.setAside(found.Metadata); err != nil {
+			return nil, err
+		}
+	}
+}
+
+func (n *Node) sayOlder(found, newest uint64) {
+	if found != newest {
+		n.cfg.Log.Printf("the snapshot at %d can't be read: this member begins in the one at %d; 0 is the empty one", newest, found)
+	}
+}
+
+// setAside renames the files of a snapshot that is damaged.
+func (n *Node) setAside(m raftpb.SnapshotMetadata) error {
+	for _, name := range []string{fmt.Sprintf("%016x-%016x.snap", m.Term, m.Index), fmt.Sprintf("%016x.snap.db", m.Index)} {
+		path := filepath.Join(n.snapFolder(), name)
+		if err := os.Rename(path, path+".broken"); err != nil && !errors.Is(err, os.ErrNotExist) {
+			return err
+		}
+	}
+	return syncFolder(n.snapFolder())
+}
+
+// readLog reads the log behind a snapshot. A torn record at its end was never told of, and is cut off, once.
+func (n *Node) readLog(newest *raftpb.Snapshot) (raftpb.HardState, []raftpb.Entry, error) {
+	at := walpb.Snapshot{}
+	if newest != nil {
+		at.Index, at.Term = newest.Metadata.Index, newest.Metadata.Term
+	}
+	for isRepaired := false; ; isRepaired = true {
+		var err error
+		if n.wal, err = wal.Open(n.zap, n.logFolder(), at); err != nil {
+			return raftpb.HardState{}, nil, n.unreadable(at.Index, err)
+		}
+		metadata, hard, entries, err := n.wal.ReadAll()
+		if err == nil && string(metadata) != string(n.metadata()) {
+			return hard, nil, errNotMember
+		} else if err == nil {
+			return hard, entries, nil
+		}
+		n.wal.Close()
+		n.wal = nil
+		if err != io.ErrUnexpectedEOF || isRepaired || !wal.Repair(n.zap, n.logFolder()) {
+			return hard, nil, n.unreadable(at.Index, err)
+		}
+		n.cfg.Log.Printf("the log ended in a torn record, which was cut off: nobody was told of it")
+	}
+}
+
+func (n *Node) unreadable(from uint64, err error) error {
+	if err == wal.ErrFileNotFound || err == wal.ErrSliceOutOfRange {
+		err = fmt.Errorf("it does not reach back to entry %d", from)
+	}
+	return fmt.Errorf("the log can't be read: %w. Remove this member, and add one with an empty folder", err)
+}
+
+// A head stands in a snapshot's file before the state: the log no longer has the entries that added the members.
+type head struct {
+	Members []engine.Member `json:"members"`
+	Removed []uint64        `json:"removed"`
+}
+
+// restore begins in the file of a snapshot.
+func (n *Node) restore(m raftpb.SnapshotMetadata) error {
+	file, err := os.Open(n.fileOf(m.Index))
+	if err != nil {
+		return err
+	}
+	defer file.Close()
+	head, err := readHead(file)
+	if err != nil {
+		return err
+	}
+	if err := n.machine.Restore(file); err != nil {
+		return err
+	}
+	n.mu.Lock()
+	n.members, n.removed = map[uint64]engine.Member{}, map[uint64]bool{}
+	for _, member := range head.Members {
+		n.members[member.ID] = member
+	}
+	for _, id := range head.Removed {
+		n.removed[id] = true
+	}
+	n.mu.Unlock()
+	n.conf = m.ConfState
+	atomic.StoreUint64(&n.saved, m.Index)
+	n.setApplied(m.Index)
+	return nil
+}
+
+func (n *Node) fileOf(index uint64) string {
+	return filepath.Join(n.snapFolder(), fmt.Sprintf("%016x.snap.db", index))
+}
+
+func syncFolder(path string) error {
+	folder, err := os.Open(path)
+	if err != nil {
+		return err
+	}
+	defer folder.Close()
+	return fileutil.Fsync(folder)
+}
+
+// indexesOf are the snapshots whose metadata stand in the folder, the oldest first.
+func (n *Node) indexesOf() ([]uint64, error) {
+	entries, err := os.ReadDir(n.snapFolder())
+	if err != nil {
+		return nil, err
+	}
+	var found []uint64
+	for _, entry := range entries { // (by name: by term, and so by index)
+		var term, index uint64
+		if name := entry.Name(); strings.HasSuffix(name, ".snap") {
+			if _, err := fmt.Sscanf(name, "%016x-%016x.snap", &term, &index); err == nil {
+				found = append(found, index)
+			}
+		}
+	}
+	return found, nil
+}

@@ -1,0 +1,175 @@
+package raftlog
+
+import (
+	"context"
+	"encoding/binary"
+	"fmt"
+	"sync/atomic"
+	"time"
+
+	"go.etcd.io/etcd/raft"
+	"go.etcd.io/etcd/raft/raftpb"
+	"go.etcd.io/etcd/wal/walpb"
+
+	"lrcman/service/internal/engine"
+)
+
+func withID(id uint64, payload []byte) []byte {
+	data := make([]byte, 8, 8+len(payload))
+	binary.LittleEndian.PutUint64(data, id)
+	return append(data, payload...)
+}
+
+// loop is the only one that takes what raft has ready.
+func (n *Node) loop() {
+	defer close(n.done)
+	tick := time.NewTicker(n.cfg.Election / ticks)
+	defer tick.Stop()
+	for isAlive := true; isAlive; {
+		select {
+		case <-tick.C:
+			n.tick()
+		case ready := <-n.raft.Ready():
+			isAlive = n.serve(ready)
+		case err := <-n.written:
+			n.hasWritten(err)
+		case answer := <-n.snapshots:
+			answer <- n.trySnapshot()
+		case id := <-n.leaving:
+			n.disconnect(id)
+		case <-n.peers.ErrorC: // others tell that this member was removed
+			n.end(engine.ErrRemoved)
+			isAlive = false
+		case <-n.stop:
+			isAlive = false
+		}
+	}
+	if n.isSaving {
+		<-n.written
+	}
+	n.stopOnce.Do(func() { close(n.stop) })
+	n.failAll()
+	n.release()
+}
+
+func (n *Node) tick() {
+	n.raft.Tick()
+	if len(n.conf.Voters) == 1 && n.conf.Voters[0] == n.cfg.Self.ID && atomic.LoadUint64(&n.lead) == raft.None {
+		n.raft.Campaign(context.Background()) // alone: there is no one to wait for
+	}
+}
+
+// must ends the process: after a failed write nobody knows what is on the disk, and a member that goes on may break what it
+// promised.
+func (n *Node) must(what string, err error) {
+	if err != nil {
+		n.cfg.Fatal(fmt.Errorf("%s: %w", what, err))
+	}
+}
+
+// serve does what raft has ready. Each step has its place. It returns false once this member is none of the group.
+func (n *Node) serve(ready raft.Ready) bool {
+	n.note(ready)
+	// 1. A leader may send before it saves: its followers save beside it. It hears of no commit before it has saved,
+	// since the next Ready comes only after Advance. Everybody else saves first: a vote or an acknowledgement is a promise.
+	if n.isLeader {
+		n.send(ready.Messages)
+	}
+	// 2. A snapshot before the hard state that counts on it: else a crash leaves a log that no start can read.
+	if !raft.IsEmptySnap(ready.Snapshot) {
+		n.saveReceived(ready.Snapshot)
+	}
+	// 3. This syncs if there are entries, or a new term or vote.
+	n.must("the log can't be written", n.wal.Save(ready.HardState, ready.Entries))
+	if !raft.IsEmptySnap(ready.Snapshot) {
+		n.takeReceived(ready.Snapshot)
+	}
+	n.must("the log can't be kept", n.storage.Append(ready.Entries))
+	// 4. Whoever counts votes must know the members of the entries that are committed: so these first, if there are some.
+	changesMembers := hasChange(ready.CommittedEntries)
+	if !n.isLeader && !changesMembers {
+		n.send(ready.Messages)
+	}
+	n.giveReads(ready.ReadStates)
+	isMember := n.apply(ready.CommittedEntries)
+	if !n.isLeader && changesMembers {
+		n.send(ready.Messages)
+	}
+	n.raft.Advance()
+	if isMember && n.isDue() {
+		n.trySnapshot() // (one that is being written already will do)
+	}
+	return isMember
+}
+
+// isDue tells whether it is time for a snapshot.
+func (n *Node) isDue() bool {
+	behind := atomic.LoadUint64(&n.applied) - atomic.LoadUint64(&n.saved)
+	return behind >= n.cfg.SnapshotEvery && time.Now().After(n.retryAt)
+}
+
+func (n *Node) note(ready raft.Ready) {
+	if ready.SoftState != nil {
+		before := atomic.SwapUint64(&n.lead, ready.SoftState.Lead)
+		if before != ready.SoftState.Lead && before != raft.None {
+			n.failAll() // whoever waits asks again
+		}
+		n.isLeader = ready.SoftState.RaftState == raft.StateLeader
+	}
+	if !raft.IsEmptyHardState(ready.HardState) {
+		atomic.StoreUint64(&n.term, ready.HardState.Term)
+		atomic.StoreUint64(&n.commit, ready.HardState.Commit)
+	}
+}
+
+func hasChange(entries []raftpb.Entry) bool {
+	for i := range entries {
+		if entries[i].Type != raftpb.EntryNormal {
+			return true
+		}
+	}
+	return false
+}
+
+func (n *Node) apply(entries []raftpb.Entry) bool {
+	isMember := true
+	for i := range entries {
+		entry := &entries[i]
+		if entry.Index <= atomic.LoadUint64(&n.applied) {
+			continue // the snapshot has it
+		}
+		switch {
+		case entry.Type == raftpb.EntryConfChange:
+			isMember = n.applyChange(entry) && isMember
+		case entry.Type != raftpb.EntryNormal:
+			n.must("the log", fmt.Errorf("entry %d is of kind %v", entry.Index, entry.Type))
+		case len(entry.Data) > 8: // (an empty one is that of a new leader)
+			told, err := n.machine.Apply(entry.Index, entry.Data[8:])
+			n.must("this member ends", err)
+			n.tell(binary.LittleEndian.Uint64(entry.Data), told, nil)
+		}
+		n.setApplied(entry.Index)
+	}
+	return isMember
+}
+
+// saveReceived saves a snapshot of the leader, whose file of books rafthttp has saved and renamed already.
+func (n *Node) saveReceived(received raftpb.Snapshot) {
+	m := received.Metadata
+	n.must("the folder of snapshots can't be synced", syncFolder(n.snapFolder())) // (rafthttp leaves this out)
+	if err := n.restore(m); err != nil {
+		n.setAside(m) // else it would be kept in place of the next one
+		n.must("the snapshot of the leader can't be read", err)
+	}
+	n.failAll() // what waits may be in it, and is not applied here any more
+	n.must("a snapshot can't be written", n.snaps.SaveSnap(received))
+	n.must("the log can't be written", n.wal.SaveSnapshot(walpb.Snapshot{Index: m.Index, Term: m.Term}))
+}
+
+// takeReceived goes on behind a snapshot of the leader that is saved.
+func (n *Node) takeReceived(received raftpb.Snapshot) {
+	n.must("the log can't be synced", n.wal.Sync()) // a hard state alone was perhaps not synced
+	n.must("the log can't be kept", n.storage.ApplySnapshot(received))
+	n.renewPeers()
+	n.must("old files can't be removed", n.purge())
+}

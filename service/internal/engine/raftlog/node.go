@@ -1,0 +1,265 @@
+// Package raftlog is an engine over etcd's own parts: raft, wal, snap and rafthttp of go.etcd.io/etcd 3.4.
+//
+// One goroutine, the loop, saves, sends and applies what raft asks for. Its order is what makes an answer durable: see serve.
+package raftlog
+
+import (
+	"context"
+	"errors"
+	"log"
+	"net/http"
+	"path/filepath"
+	"sync"
+	"sync/atomic"
+	"time"
+
+	"go.etcd.io/etcd/etcdserver/api/rafthttp"
+	"go.etcd.io/etcd/etcdserver/api/snap"
+	"go.etcd.io/etcd/pkg/fileutil"
+	"go.etcd.io/etcd/pkg/idutil"
+	"go.etcd.io/etcd/pkg/transport"
+	"go.etcd.io/etcd/raft"
+	"go.etcd.io/etcd/raft/raftpb"
+	"go.etcd.io/etcd/wal"
+	"go.uber.org/zap"
+
+	"lrcman/service/internal/engine"
+)
+
+// A Config says what a member is.
+type Config struct {
+	Dir           string // its folder
+	Group         uint64 // members of another group are refused
+	Self          engine.Member
+	Members       []engine.Member // the first members, alike on all of them, this one included; empty where this one joins
+	Listen        string          // HOST:PORT for the other members; "" for one alone
+	TLS           transport.TLSInfo
+	Election      time.Duration // a leader that is silent so long is given up
+	SnapshotEvery uint64        // entries between snapshots
+	Trailing      uint64        // entries that stay behind a snapshot, for members that are a little late
+	Log           *log.Logger
+	Fatal         func(error) // ends the process: after a failed write nobody knows what is on disk
+}
+
+// ticks is the number of raft's ticks in an election timeout.
+const ticks = 10
+
+// A Node is a member that runs. It is an engine.Engine.
+type Node struct {
+	cfg     Config
+	machine engine.Machine
+	lock    *fileutil.LockedFile
+	raft    raft.Node
+	storage *raft.MemoryStorage
+	wal     *wal.WAL
+	snaps   *snap.Snapshotter
+	peers   *rafthttp.Transport
+	server  *http.Server
+	ids     *idutil.Generator
+	zap     *zap.Logger
+
+	lead, term, commit, applied, saved uint64 // atomic; saved is the index of the last snapshot
+
+	mu      sync.Mutex
+	waiting map[uint64]chan outcome  // proposals of this member, by their numbers
+	reads   map[uint64]chan uint64   // read indexes that were asked for
+	behind  []until                  // readers who wait until an index is applied
+	members map[uint64]engine.Member // part of the replicated state
+	removed map[uint64]bool          // the same: no number is used again
+	round   *round                   // of the readers who come now
+	err     error
+
+	conf     raftpb.ConfState // of the loop
+	isLeader bool             // of the loop
+	isSaving bool             // of the loop: a snapshot is being written
+	retryAt  time.Time        // of the loop: no snapshot before
+
+	readers    chan struct{}
+	snapshots  chan chan error
+	written    chan error
+	leaving    chan uint64
+	stop, done chan struct{}
+	stopOnce   sync.Once
+}
+
+type outcome struct {
+	told interface{}
+	err  error
+}
+
+// Start begins a member, or goes on with the one that the folder has.
+func Start(cfg Config, machine engine.Machine) (*Node, error) {
+	n := &Node{cfg: cfg, machine: machine, storage: raft.NewMemoryStorage(), waiting: map[uint64]chan outcome{},
+		ids: idutil.NewGenerator(uint16(cfg.Self.ID), time.Now()), reads: map[uint64]chan uint64{},
+		members: map[uint64]engine.Member{},
+		removed: map[uint64]bool{}, round: newRound(), readers: make(chan struct{}, 1), snapshots: make(chan chan error),
+		written: make(chan error, 1), leaving: make(chan uint64), stop: make(chan struct{}), done: make(chan struct{})}
+	if err := n.begin(); err != nil {
+		n.release()
+		return nil, err
+	}
+	go n.loop()
+	go n.readLoop()
+	go n.announce()
+	return n, nil
+}
+
+func (n *Node) begin() error {
+	if err := n.logToNobody(); err != nil {
+		return err
+	}
+	if err := n.takeFolder(); err != nil {
+		return err
+	}
+	isOld, err := n.openLog()
+	if err != nil {
+		return err
+	}
+	n.startRaft(isOld) // before the peers, whose messages go to it
+	if err := n.startPeers(); err != nil {
+		return err
+	}
+	return n.listen()
+}
+
+// release gives back what a start that failed, or a member that ends, has taken.
+func (n *Node) release() {
+	if n.server != nil {
+		n.server.Close()
+	}
+	if n.raft != nil {
+		n.raft.Stop()
+	}
+	if n.peers != nil {
+		n.peers.Stop()
+	}
+	if n.wal != nil {
+		n.wal.Close()
+	}
+	if n.lock != nil {
+		n.lock.Close()
+	}
+}
+
+func (n *Node) startRaft(isOld bool) {
+	cfg := &raft.Config{ID: n.cfg.Self.ID, ElectionTick: ticks, HeartbeatTick: 1, Storage: n.storage, Applied: n.applied,
+		MaxSizePerMsg: 1 << 20, MaxInflightMsgs: 512, MaxUncommittedEntriesSize: 64 << 20, ReadOnlyOption: raft.ReadOnlySafe,
+		// Without CheckQuorum a leader that is cut off goes on; without PreVote a member that comes back deposes a leader.
+		CheckQuorum: true, PreVote: true}
+	if isOld || len(n.cfg.Members) == 0 {
+		// (StartNode without peers panics. A member that joins hears of the others from the leader)
+		n.raft = raft.RestartNode(cfg)
+		return
+	}
+	n.raft = raft.StartNode(cfg, peersOf(n.cfg.Members))
+}
+
+func (n *Node) logFolder() string  { return filepath.Join(n.cfg.Dir, "wal") }
+func (n *Node) snapFolder() string { return filepath.Join(n.cfg.Dir, "snap") }
+
+// Propose may be called on any member: raft passes it on to the leader.
+func (n *Node) Propose(ctx context.Context, payload []byte) (interface{}, error) {
+	id, told := n.wait()
+	if err := n.raft.Propose(ctx, withID(id, payload)); err != nil {
+		n.forgetWaiting(id)
+		if err == raft.ErrProposalDropped {
+			return nil, engine.ErrNoLeader
+		}
+		return nil, engine.ErrUnknown
+	}
+	return n.outcome(ctx, id, told)
+}
+
+func (n *Node) wait() (uint64, chan outcome) {
+	id, told := n.ids.Next(), make(chan outcome, 1)
+	n.mu.Lock()
+	defer n.mu.Unlock()
+	n.waiting[id] = told
+	return id, told
+}
+
+func (n *Node) forgetWaiting(id uint64) {
+	n.mu.Lock()
+	defer n.mu.Unlock()
+	delete(n.waiting, id)
+}
+
+func (n *Node) outcome(ctx context.Context, id uint64, told chan outcome) (interface{}, error) {
+	select {
+	case outcome := <-told:
+		return outcome.told, outcome.err
+	case <-ctx.Done():
+	case <-n.done:
+	}
+	n.forgetWaiting(id)
+	return nil, engine.ErrUnknown
+}
+
+// tell gives a proposal of this member what Apply returned.
+func (n *Node) tell(id uint64, told interface{}, err error) {
+	n.mu.Lock()
+	defer n.mu.Unlock()
+	if c := n.waiting[id]; c != nil {
+		c <- outcome{told, err} // (it has room for one)
+		delete(n.waiting, id)
+	}
+}
+
+// failAll tells all who wait that nobody knows. What was passed on to a leader that is gone may be lost without a word.
+func (n *Node) failAll() {
+	n.mu.Lock()
+	defer n.mu.Unlock()
+	for id, c := range n.waiting {
+		c <- outcome{nil, engine.ErrUnknown}
+		delete(n.waiting, id)
+	}
+}
+
+// Status is how this member sees the group now.
+func (n *Node) Status() engine.Status {
+	first, err := n.storage.FirstIndex()
+	if err != nil {
+		first = 0
+	}
+	return engine.Status{ID: n.cfg.Self.ID, Leader: atomic.LoadUint64(&n.lead), Term: atomic.LoadUint64(&n.term),
+		Commit: atomic.LoadUint64(&n.commit), Applied: atomic.LoadUint64(&n.applied), Snapshot: atomic.LoadUint64(&n.saved),
+		First: first, Members: n.sorted()}
+}
+
+// Snapshot begins to write one now.
+func (n *Node) Snapshot() error {
+	answer := make(chan error, 1)
+	select {
+	case n.snapshots <- answer:
+		return <-answer
+	case <-n.done:
+		return engine.ErrEnded
+	}
+}
+
+// Done is closed when this member has ended.
+func (n *Node) Done() <-chan struct{} { return n.done }
+
+// Err says why it ended.
+func (n *Node) Err() error {
+	n.mu.Lock()
+	defer n.mu.Unlock()
+	return n.err
+}
+
+// Close ends this member.
+func (n *Node) Close() {
+	n.stopOnce.Do(func() { close(n.stop) })
+	<-n.done
+}
+
+func (n *Node) end(err error) {
+	n.mu.Lock()
+	if n.err == nil {
+		n.err = err
+	}
+	n.mu.Unlock()
+	n.stopOnce.Do(func() { close(n.stop) })
+}
+
+var errNotMember = errors.New("the folder is that of another member, or of another group")

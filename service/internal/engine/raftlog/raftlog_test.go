@@ -1,0 +1,731 @@
+package raftlog
+
+import (
+	"bytes"
+	"context"
+	"encoding/json"
+	"errors"
+	"fmt"
+	"hash/crc32"
+	"io"
+	"log"
+	"net"
+	"os"
+	"path/filepath"
+	"reflect"
+	"strings"
+	"sync"
+	"testing"
+	"time"
+
+	"go.etcd.io/etcd/pkg/transport"
+	"go.etcd.io/etcd/wal"
+
+	"lrcman/service/internal/engine"
+	"lrcman/service/internal/testcerts"
+)
+
+// TestMain makes the files of the log small: so that they are many, and made quickly.
+func TestMain(m *testing.M) {
+	wal.SegmentSizeBytes = 64 << 10
+	os.Exit(m.Run())
+}
+
+// list is a machine that keeps the payloads which it was given.
+type list struct {
+	mu      sync.Mutex
+	entries []string
+	index   uint64
+	fault   error // what Apply returns
+}
+
+func (l *list) Apply(index uint64, payload []byte) (interface{}, error) {
+	l.mu.Lock()
+	defer l.mu.Unlock()
+	if index <= l.index {
+		return nil, fmt.Errorf("index %d comes after %d", index, l.index)
+	}
+	l.index = index
+	for i, entry := range l.entries { // a text that begins with `entry` is a key: it is taken once
+		if entry == string(payload) && strings.HasPrefix(entry, "entry") {
+			return i + 1, l.fault
+		}
+	}
+	l.entries = append(l.entries, string(payload))
+	return len(l.entries), l.fault
+}
+
+func (l *list) all() []string {
+	l.mu.Lock()
+	defer l.mu.Unlock()
+	return append([]string(nil), l.entries...)
+}
+
+func (l *list) Freeze() func(io.Writer) error {
+	l.mu.Lock()
+	defer l.mu.Unlock()
+	text, err := json.Marshal(struct {
+		Index   uint64
+		Entries []string
+	}{l.index, l.entries})
+	return func(w io.Writer) error {
+		if err == nil {
+			_, err = fmt.Fprintf(w, "%08x%s", crc32.ChecksumIEEE(text), text)
+		}
+		return err
+	}
+}
+
+func (l *list) Restore(r io.Reader) error {
+	text, err := io.ReadAll(r)
+	if err != nil {
+		return err
+	}
+	if len(text) < 8 || fmt.Sprintf("%08x", crc32.ChecksumIEEE(text[8:])) != string(text[:8]) {
+		return fmt.Errorf("%w: its list", engine.ErrDamaged)
+	}
+	var found struct {
+		Index   uint64
+		Entries []string
+	}
+	if err := json.Unmarshal(text[8:], &found); err != nil {
+		return err
+	}
+	l.mu.Lock()
+	defer l.mu.Unlock()
+	l.index, l.entries = found.Index, found.Entries
+	return nil
+}
+
+// said collects what a member logs.
+type said struct {
+	mu   sync.Mutex
+	text bytes.Buffer
+}
+
+func (s *said) Write(text []byte) (int, error) {
+	s.mu.Lock()
+	defer s.mu.Unlock()
+	return s.text.Write(text)
+}
+
+func (s *said) String() string {
+	s.mu.Lock()
+	defer s.mu.Unlock()
+	return s.text.String()
+}
+
+func configOf(t *testing.T, folder string, self engine.Member, members ...engine.Member) (Config, *said) {
+	words := &said{}
+	return Config{Dir: folder, Group: 7, Self: self, Members: members, Listen: self.Peer, Election: 300 * time.Millisecond,
+		SnapshotEvery: 1000, Trailing: 100, Log: log.New(words, "", 0), Fatal: func(err error) {
+			t.Errorf("member %d: %v", self.ID, err)
+			select {} // (it never returns)
+		}}, words
+}
+
+func begin(t *testing.T, cfg Config) (*Node, *list) {
+	t.Helper()
+	machine := &list{}
+	n, err := Start(cfg, machine)
+	if err != nil {
+		t.Fatal(err)
+	}
+	t.Cleanup(n.Close)
+	return n, machine
+}
+
+// propose asks until it is told.
+func propose(t *testing.T, n engine.Engine, text string) interface{} {
+	t.Helper()
+	ctx, cancel := context.WithTimeout(context.Background(), 10*time.Second)
+	defer cancel()
+	for {
+		told, err := n.Propose(ctx, []byte(text))
+		if err == nil {
+			return told
+		} else if ctx.Err() != nil {
+			t.Fatalf("%s: %v", text, err)
+		}
+		time.Sleep(10 * time.Millisecond)
+	}
+}
+
+func eventually(t *testing.T, what string, is func() bool) {
+	t.Helper()
+	for end := time.Now().Add(15 * time.Second); !is(); time.Sleep(10 * time.Millisecond) {
+		if time.Now().After(end) {
+			t.Fatalf("never: %s", what)
+		}
+	}
+}
+
+func barrier(t *testing.T, n *Node) {
+	t.Helper()
+	ctx, cancel := context.WithTimeout(context.Background(), 10*time.Second)
+	defer cancel()
+	if err := n.Barrier(ctx); err != nil {
+		t.Fatal(err)
+	}
+}
+
+var alone = engine.Member{ID: 1}
+
+func texts(from, to int) (all []string) {
+	for i := from; i <= to; i++ {
+		all = append(all, fmt.Sprintf("entry %d", i))
+	}
+	return all
+}
+
+func proposeAll(t *testing.T, n engine.Engine, all []string) {
+	t.Helper()
+	for _, text := range all {
+		propose(t, n, text)
+	}
+}
+
+func expect(t *testing.T, machine *list, want []string) {
+	t.Helper()
+	if have := machine.all(); !reflect.DeepEqual(have, want) {
+		t.Fatalf("the machine has %d entries %.200q, and not %d", len(have), have, len(want))
+	}
+}
+
+func TestOneMemberIsReadyAtOnceAndGoesOn(t *testing.T) {
+	t.Parallel()
+	cfg, _ := configOf(t, t.TempDir(), alone, alone)
+	least := time.Hour
+	for round := 1; round <= 3; round++ {
+		since := time.Now()
+		n, machine := begin(t, cfg)
+		if told := propose(t, n, fmt.Sprintf("entry %d", round)); told != round {
+			t.Fatalf("told %v and not %d", told, round)
+		}
+		if took := time.Since(since); took < least {
+			least = took
+		}
+		barrier(t, n)
+		expect(t, machine, texts(1, round))
+		n.Close()
+		if err := n.Err(); err != nil {
+			t.Fatal(err)
+		}
+	}
+	if least > time.Second {
+		t.Errorf("the shortest start took %v", least)
+	}
+}
+
+func TestAFolderHasOneProcess(t *testing.T) {
+	t.Parallel()
+	cfg, _ := configOf(t, t.TempDir(), alone, alone)
+	begin(t, cfg)
+	if _, err := Start(cfg, &list{}); err == nil || !strings.Contains(err.Error(), "another process has the folder") {
+		t.Fatal(err)
+	}
+}
+
+func TestAFolderIsOfOneMemberAndOneGroup(t *testing.T) {
+	t.Parallel()
+	cfg, _ := configOf(t, t.TempDir(), alone, alone)
+	n, _ := begin(t, cfg)
+	propose(t, n, "entry 1")
+	n.Close()
+	for name, change := range map[string]func(*Config){
+		"group":  func(c *Config) { c.Group++ },
+		"number": func(c *Config) { c.Self.ID = 2; c.Members = []engine.Member{c.Self} },
+	} {
+		other := cfg
+		change(&other)
+		if _, err := Start(other, &list{}); err != errNotMember {
+			t.Errorf("another %s: %v", name, err)
+		}
+	}
+	n, machine := begin(t, cfg) // (it was left as it is)
+	barrier(t, n)
+	expect(t, machine, texts(1, 1))
+}
+
+// withSnapshots leaves a folder with two snapshots and some entries behind each.
+func withSnapshots(t *testing.T) (Config, *said, []string) {
+	cfg, words := configOf(t, t.TempDir(), alone, alone)
+	cfg.Trailing = 5
+	n, _ := begin(t, cfg)
+	all := texts(1, 40)
+	for i, text := range all {
+		propose(t, n, text)
+		if i%15 == 14 {
+			before := n.Status().Snapshot
+			if err := n.Snapshot(); err != nil {
+				t.Fatal(err)
+			}
+			eventually(t, "a snapshot is made", func() bool { return n.Status().Snapshot > before })
+		}
+	}
+	n.Close()
+	if found := files(t, cfg, "*.snap.db"); len(found) != 2 {
+		t.Fatalf("snapshots: %v", found)
+	}
+	return cfg, words, all
+}
+
+func files(t *testing.T, cfg Config, pattern string) []string {
+	t.Helper()
+	found, err := filepath.Glob(filepath.Join(cfg.Dir, "snap", pattern))
+	if err != nil {
+		t.Fatal(err)
+	}
+	return found
+}
+
+// change changes one byte of a file: that at a place, counted from the end if it is negative.
+func change(t *testing.T, path string, place int) {
+	t.Helper()
+	text, err := os.ReadFile(path)
+	if err == nil {
+		text[(place+len(text))%len(text)] ^= 1
+		err = os.WriteFile(path, text, 0o600)
+	}
+	if err != nil {
+		t.Fatal(err)
+	}
+}
+
+func TestADamagedSnapshotIsPassedOver(t *testing.T) {
+	t.Parallel()
+	for name, damage := range map[string]func(Config){
+		"its mark":     func(c Config) { change(t, files(t, c, "*.snap.db")[1], 0) },
+		"its head":     func(c Config) { change(t, files(t, c, "*.snap.db")[1], len(headMark)+10) },
+		"its state":    func(c Config) { change(t, files(t, c, "*.snap.db")[1], -1) },
+		"its metadata": func(c Config) { change(t, files(t, c, "*.snap")[1], -1) },
+		"cut off":      func(c Config) { os.Truncate(files(t, c, "*.snap.db")[1], 30) },
+		"gone":         func(c Config) { os.Remove(files(t, c, "*.snap.db")[1]) },
+		"nothing":      func(c Config) {},
+	} {
+		name, damage := name, damage
+		t.Run(name, func(t *testing.T) {
+			t.Parallel()
+			cfg, words, all := withSnapshots(t)
+			damage(cfg)
+			n, machine := begin(t, cfg)
+			barrier(t, n)
+			expect(t, machine, all)
+			isSaid := strings.Contains(words.String(), "can't be read: this member begins in the one at")
+			if isSaid == (name == "nothing") {
+				t.Errorf("said: %q", words)
+			}
+			propose(t, n, "more")
+		})
+	}
+}
+
+func TestNoSnapshotIsWhole(t *testing.T) {
+	t.Parallel()
+	cfg, _, _ := withSnapshots(t)
+	for _, file := range files(t, cfg, "*.snap.db") {
+		change(t, file, -1)
+	}
+	// The log reaches back to its first entry, since its first file is not full: so even this is read.
+	n, machine := begin(t, cfg)
+	barrier(t, n)
+	expect(t, machine, texts(1, 40))
+}
+
+func TestASnapshotOfOtherRulesIsNotPassedOver(t *testing.T) {
+	t.Parallel()
+	cfg, _, _ := withSnapshots(t)
+	why := errors.New("it is of other rules")
+	if _, err := Start(cfg, &refusing{why: why}); err != why {
+		t.Fatal(err)
+	}
+}
+
+type refusing struct {
+	list
+	why error
+}
+
+func (r *refusing) Restore(io.Reader) error { return r.why }
+
+func logFile(t *testing.T, cfg Config) string {
+	t.Helper()
+	found, err := filepath.Glob(filepath.Join(cfg.Dir, "wal", "*.wal"))
+	if err != nil || len(found) == 0 {
+		t.Fatal(err, found)
+	}
+	return found[len(found)-1]
+}
+
+func TestATornEndOfTheLogIsCutOff(t *testing.T) {
+	t.Parallel()
+	cfg, words := configOf(t, t.TempDir(), alone, alone)
+	n, _ := begin(t, cfg)
+	proposeAll(t, n, texts(1, 20))
+	propose(t, n, strings.Repeat("x", 8000))
+	n.Close()
+	text, err := os.ReadFile(logFile(t, cfg))
+	if err != nil {
+		t.Fatal(err)
+	}
+	at := bytes.LastIndex(text, bytes.Repeat([]byte{'x'}, 4000)) + 2000
+	for i := at; i < len(text); i++ { // what a power cut leaves of a record that was never synced
+		text[i] = 0
+	}
+	if err := os.WriteFile(logFile(t, cfg), text, 0o600); err != nil {
+		t.Fatal(err)
+	}
+	n, machine := begin(t, cfg)
+	barrier(t, n)
+	expect(t, machine, texts(1, 20))
+	if !strings.Contains(words.String(), "torn record") {
+		t.Errorf("said: %q", words)
+	}
+	propose(t, n, "entry 21")
+	expect(t, machine, texts(1, 21))
+}
+
+func TestADamagedLogIsRefused(t *testing.T) {
+	t.Parallel()
+	cfg, _ := configOf(t, t.TempDir(), alone, alone)
+	n, _ := begin(t, cfg)
+	proposeAll(t, n, texts(1, 20))
+	n.Close()
+	text, err := os.ReadFile(logFile(t, cfg))
+	if err != nil {
+		t.Fatal(err)
+	}
+	change(t, logFile(t, cfg), bytes.Index(text, []byte("entry 7")))
+	if _, err := Start(cfg, &list{}); err == nil || !strings.Contains(err.Error(), "the log") {
+		t.Fatal(err)
+	}
+}
+
+func TestAMachineThatCannotApplyEndsTheProcess(t *testing.T) {
+	t.Parallel()
+	cfg, _ := configOf(t, t.TempDir(), alone, alone)
+	fatal := make(chan error, 1)
+	cfg.Fatal = func(err error) {
+		fatal <- err
+		select {}
+	}
+	machine := &list{fault: errors.New("it has no memory")}
+	n, err := Start(cfg, machine) // (it is left to itself: it never ends)
+	if err != nil {
+		t.Fatal(err)
+	}
+	go n.Propose(context.Background(), []byte("entry 1"))
+	select {
+	case err := <-fatal:
+		if !errors.Is(err, machine.fault) {
+			t.Fatal(err)
+		}
+	case <-time.After(10 * time.Second):
+		t.Fatal("it goes on")
+	}
+}
+
+// A group of members in one process.
+type group struct {
+	t        *testing.T
+	members  []engine.Member
+	configs  map[uint64]Config
+	nodes    map[uint64]*Node
+	machines map[uint64]*list
+}
+
+func address(t *testing.T) string {
+	t.Helper()
+	listener, err := net.Listen("tcp", "127.0.0.1:0")
+	if err != nil {
+		t.Fatal(err)
+	}
+	defer listener.Close()
+	return listener.Addr().String()
+}
+
+func groupOf(t *testing.T, size int, changes ...func(*Config)) *group {
+	t.Helper()
+	g := &group{t: t, configs: map[uint64]Config{}, nodes: map[uint64]*Node{}, machines: map[uint64]*list{}}
+	for id := uint64(1); id <= uint64(size); id++ {
+		g.members = append(g.members, engine.Member{ID: id, Peer: address(t), Client: "127.0.0.1:1"})
+	}
+	for _, member := range g.members {
+		cfg, _ := configOf(t, t.TempDir(), member, g.members...)
+		for _, change := range changes {
+			change(&cfg)
+		}
+		g.configs[member.ID] = cfg
+		g.start(member.ID)
+	}
+	return g
+}
+
+func (g *group) start(id uint64) {
+	g.t.Helper()
+	g.nodes[id], g.machines[id] = begin(g.t, g.configs[id])
+}
+
+func (g *group) leader() uint64 {
+	g.t.Helper()
+	var leader uint64
+	eventually(g.t, "there is a leader", func() bool {
+		for id, n := range g.nodes {
+			if status := n.Status(); status.Leader == id {
+				leader = id
+				return true
+			}
+		}
+		return false
+	})
+	return leader
+}
+
+func (g *group) other(id uint64) uint64 {
+	for other := range g.nodes {
+		if other != id {
+			return other
+		}
+	}
+	return 0
+}
+
+func (g *group) alike(want []string) {
+	g.t.Helper()
+	for id, n := range g.nodes {
+		barrier(g.t, n)
+		if have := g.machines[id].all(); !reflect.DeepEqual(have, want) {
+			g.t.Fatalf("member %d has %d entries %.200q, and not %d", id, len(have), have, len(want))
+		}
+	}
+}
+
+func TestThreeMembersKeepOneLog(t *testing.T) {
+	t.Parallel()
+	g := groupOf(t, 3)
+	want := []string{}
+	for i := 0; i < 30; i++ {
+		text := fmt.Sprintf("entry %d", i)
+		if told := propose(t, g.nodes[uint64(i%3+1)], text); told != i+1 {
+			t.Fatalf("told %v and not %d", told, i+1)
+		}
+		want = append(want, text)
+	}
+	g.alike(want)
+}
+
+func TestALeaderEndsAndComesBack(t *testing.T) {
+	t.Parallel()
+	g := groupOf(t, 3)
+	propose(t, g.nodes[1], "entry 1")
+	gone := g.leader()
+	g.nodes[gone].Close()
+	delete(g.nodes, gone)
+	proposeAll(t, g.nodes[g.other(gone)], texts(2, 5))
+	g.start(gone)
+	propose(t, g.nodes[gone], "entry 6")
+	g.alike(texts(1, 6))
+}
+
+func TestAMemberThatWasAwayGetsASnapshot(t *testing.T) {
+	t.Parallel()
+	g := groupOf(t, 3)
+	propose(t, g.nodes[1], "entry 1")
+	away := g.other(g.leader())
+	g.nodes[away].Close()
+	delete(g.nodes, away)
+	proposeAll(t, g.nodes[g.leader()], texts(2, 300))
+	for _, n := range g.nodes {
+		if err := n.Snapshot(); err != nil {
+			t.Fatal(err)
+		}
+	}
+	eventually(t, "the log is cut", func() bool {
+		for _, n := range g.nodes {
+			if n.Status().First < 100 {
+				return false
+			}
+		}
+		return true
+	})
+	g.start(away)
+	g.alike(texts(1, 300))
+	if g.nodes[away].Status().Snapshot < 300 {
+		t.Error("it has got no snapshot")
+	}
+	propose(t, g.nodes[away], "entry 301")
+	g.alike(texts(1, 301))
+	g.nodes[away].Close() // and it starts again from there
+	g.start(away)
+	g.alike(texts(1, 301))
+}
+
+func (g *group) add(id uint64) {
+	g.t.Helper()
+	member := engine.Member{ID: id, Peer: address(g.t), Client: "127.0.0.1:1"}
+	g.must(g.nodes[g.leader()].Add, member)
+	g.configs[id], _ = configOf(g.t, g.t.TempDir(), member)
+	g.start(id)
+}
+
+func (g *group) must(change func(context.Context, engine.Member) error, member engine.Member) {
+	g.t.Helper()
+	ctx, cancel := context.WithTimeout(context.Background(), 10*time.Second)
+	defer cancel()
+	if err := change(ctx, member); err != nil {
+		g.t.Fatal(err)
+	}
+}
+
+func TestMembersComeAndGo(t *testing.T) {
+	t.Parallel()
+	g := groupOf(t, 3)
+	proposeAll(t, g.nodes[1], texts(1, 10))
+	g.add(4)
+	g.alike(texts(1, 10))
+	ctx, cancel := context.WithTimeout(context.Background(), 10*time.Second)
+	defer cancel()
+	for name, it := range map[string]struct {
+		err  error
+		want string
+	}{
+		"twice":   {g.nodes[1].Add(ctx, engine.Member{ID: 4, Peer: "127.0.0.1:1"}), "there is a member 4 already"},
+		"unknown": {g.nodes[1].Remove(ctx, 9), "there is no member 9"},
+		"address": {g.nodes[1].Add(ctx, engine.Member{ID: 9}), "a member has no address for the others: start it with --peer"},
+		"port":    {g.nodes[1].Add(ctx, engine.Member{ID: 9, Peer: "here"}), "this is no address: \"here\""},
+	} {
+		if it.err != engine.Refused(it.want) {
+			t.Errorf("%s: %v", name, it.err)
+		}
+	}
+	gone := g.leader()
+	if err := g.nodes[gone].Remove(ctx, gone); err != nil && err != engine.ErrUnknown { // (the leader may end before it hears)
+		t.Fatal(err)
+	}
+	eventually(t, "the removed member ends", func() bool {
+		select {
+		case <-g.nodes[gone].Done():
+			return true
+		default:
+			return false
+		}
+	})
+	if err := g.nodes[gone].Err(); err != engine.ErrRemoved {
+		t.Fatal(err)
+	}
+	delete(g.nodes, gone)
+	proposeAll(t, g.nodes[g.other(gone)], texts(11, 12))
+	g.alike(texts(1, 12))
+	if err := g.nodes[g.leader()].Add(ctx, g.members[gone-1]); gone <= 3 && (err == nil || !strings.Contains(err.Error(), "not used again")) {
+		t.Fatal(err)
+	}
+}
+
+// One that was begun alone, and not with --join, has a log of its own: it must not be mixed with the group's.
+func TestAFolderThatWasBegunAloneIsNotTakenIn(t *testing.T) {
+	t.Parallel()
+	g := groupOf(t, 3)
+	proposeAll(t, g.nodes[1], texts(1, 5))
+	member := engine.Member{ID: 4, Peer: address(t), Client: "127.0.0.1:1"}
+	cfg, _ := configOf(t, t.TempDir(), member, member)
+	n, _ := begin(t, cfg)
+	propose(t, n, "another entry")
+	g.must(g.nodes[g.leader()].Add, member)
+	proposeAll(t, g.nodes[g.leader()], texts(6, 9))
+	g.alike(texts(1, 9))
+	for round := 0; round < 2; round++ {
+		time.Sleep(time.Second)
+		expect(t, n.machine.(*list), []string{"another entry"})
+		n.Close()
+		cfg.Members = nil // as with --join
+		n, _ = begin(t, cfg)
+		barrier(t, n)
+	}
+}
+
+func TestOneMemberGrowsToThree(t *testing.T) {
+	t.Parallel()
+	cfg, _ := configOf(t, t.TempDir(), alone, alone)
+	n, _ := begin(t, cfg)
+	proposeAll(t, n, texts(1, 5))
+	ctx, cancel := context.WithTimeout(context.Background(), 10*time.Second)
+	defer cancel()
+	if err := n.Add(ctx, engine.Member{ID: 2, Peer: address(t)}); err == nil || !strings.Contains(err.Error(), "--peer") {
+		t.Fatal(err)
+	}
+	if err := n.Snapshot(); err != nil { // from before the others are added
+		t.Fatal(err)
+	}
+	eventually(t, "a snapshot is made", func() bool { return n.Status().Snapshot > 0 })
+	n.Close()
+	self := engine.Member{ID: 1, Peer: address(t), Client: "127.0.0.1:1"}
+	g := &group{t: t, configs: map[uint64]Config{}, nodes: map[uint64]*Node{}, machines: map[uint64]*list{}}
+	cfg.Self, cfg.Members, cfg.Listen = self, []engine.Member{self}, self.Peer
+	g.configs[1] = cfg
+	g.start(1)
+	eventually(t, "the new address is known", func() bool {
+		members := g.nodes[1].Status().Members
+		return len(members) == 1 && members[0] == self
+	})
+	g.add(2)
+	g.alike(texts(1, 5))
+	g.add(3)
+	proposeAll(t, g.nodes[3], texts(6, 8))
+	g.alike(texts(1, 8))
+}
+
+func TestOldFilesAreRemoved(t *testing.T) {
+	t.Parallel()
+	cfg, _ := configOf(t, t.TempDir(), alone, alone)
+	cfg.SnapshotEvery, cfg.Trailing = 4, 0
+	n, _ := begin(t, cfg)
+	big := strings.Repeat("x", 8<<10)
+	for i := 0; i < 60; i++ { // (a file of the log has 64 KiB here)
+		propose(t, n, big)
+	}
+	logs := func() int {
+		found, _ := filepath.Glob(filepath.Join(cfg.Dir, "wal", "*.wal"))
+		return len(found)
+	}
+	eventually(t, "old files of the log go", func() bool { propose(t, n, "more"); return logs() <= 2 })
+	eventually(t, "two snapshots stay", func() bool { return len(files(t, cfg, "*.snap")) == 2 && len(files(t, cfg, "*.snap.db")) == 2 })
+	if first := n.Status().First; first < 40 {
+		t.Errorf("entries from %d on are in memory", first)
+	}
+	n.Close()
+	change(t, files(t, cfg, "*.snap.db")[1], -1) // and the log still reaches back to the one before
+	n, machine := begin(t, cfg)
+	barrier(t, n)
+	if have := machine.all(); len(have) < 60 || have[59] != big {
+		t.Fatalf("%d entries", len(have))
+	}
+}
+
+func TestMembersShowEachOtherCertificates(t *testing.T) {
+	t.Parallel()
+	ours, others := testcerts.New(t, "ours"), testcerts.New(t, "others")
+	with := func(authority *testcerts.Authority) func(*Config) {
+		return func(cfg *Config) {
+			certificate, key := authority.Sign(fmt.Sprint(cfg.Self.ID))
+			cfg.TLS = transport.TLSInfo{CertFile: certificate, KeyFile: key, TrustedCAFile: authority.File, ClientCertAuth: true}
+		}
+	}
+	g := groupOf(t, 3, with(ours))
+	proposeAll(t, g.nodes[1], texts(1, 5))
+	g.alike(texts(1, 5))
+	stranger := g.other(g.leader()) // comes back with a certificate of others, and hears nothing
+	g.nodes[stranger].Close()
+	delete(g.nodes, stranger)
+	proposeAll(t, g.nodes[g.leader()], texts(6, 9))
+	cfg := g.configs[stranger]
+	with(others)(&cfg)
+	n, machine := begin(t, cfg)
+	ctx, cancel := context.WithTimeout(context.Background(), time.Second)
+	defer cancel()
+	if err := n.Barrier(ctx); err == nil {
+		t.Error("the others answer a stranger")
+	}
+	if have := machine.all(); len(have) > 5 {
+		t.Errorf("a stranger heard of %q", have[5:])
+	}
+}

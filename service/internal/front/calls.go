@@ -1,0 +1,115 @@
+package front
+
+import (
+	"net/http"
+
+	"lrcman/service/internal/book"
+	"lrcman/service/internal/state"
+)
+
+// answerOf gives a client what an item was answered.
+func (q *request) answerOf(item *state.Item) (state.Answer, error) {
+	answer, err := q.do(q.ctx, item)
+	if err != nil || answer.Refusal == 0 {
+		return answer, err
+	}
+	return answer, &failure{Status: statuses[answer.Refusal], Words: answer.Words}
+}
+
+// statuses are those of the service's own refusals.
+var statuses = map[state.Refusal]int{
+	state.NoBook:       http.StatusNotFound,
+	state.BookExists:   http.StatusConflict,
+	state.TooManyBooks: http.StatusConflict,
+	state.BadText:      http.StatusUnprocessableEntity,
+	state.KeyReused:    http.StatusConflict,
+	state.Moved:        http.StatusConflict,
+	state.OutOfRange:   http.StatusBadRequest,
+	state.OtherRules:   http.StatusServiceUnavailable,
+}
+
+// made is the answer to one who made a book, or began it over other nodes.
+type made struct {
+	Made    uint64 `json:"n"`
+	Opens   uint64 `json:"opens"`
+	IsAgain bool   `json:"again,omitempty"`
+}
+
+func (q *request) create() error {
+	asJSON, err := isJSON(q.r, true)
+	if err != nil {
+		return err
+	}
+	most := int64(mostNodes)
+	if asJSON {
+		most = mostImage
+	}
+	text, err := q.body(most)
+	if err != nil {
+		return err
+	}
+	item, err := createOf(text, q.names["book"], asJSON)
+	if err != nil {
+		return err
+	}
+	answer, err := q.answerOf(item)
+	if err != nil {
+		return err
+	}
+	return q.say(http.StatusOK, made{answer.Made, answer.Opens, answer.IsAgain})
+}
+
+func (q *request) reopen() error {
+	if asJSON, err := isJSON(q.r, true); err != nil {
+		return err
+	} else if asJSON {
+		return &failure{Status: http.StatusUnsupportedMediaType, Words: "the body has to be TOML"}
+	}
+	text, err := q.body(mostNodes)
+	if err != nil {
+		return err
+	}
+	answer, err := q.answerOf(&state.Item{Action: state.Reopen, Book: q.names["book"], Nodes: text})
+	if err != nil {
+		return err
+	}
+	return q.say(http.StatusOK, made{answer.Made, answer.Opens, answer.IsAgain})
+}
+
+// forWorkers are the commands that the role of workers may call.
+var forWorkers = map[book.Kind]bool{book.Place: true, book.Place6: true, book.Drop: true, book.Lease: true, book.Next: true,
+	book.Done: true, book.Abandon: true}
+
+// told is the answer to a call, and an entry of a log.
+type told struct {
+	Made    uint64 `json:"n,omitempty"`
+	Opens   uint64 `json:"opens,omitempty"`
+	Session uint8  `json:"session,omitempty"`
+	Command string `json:"command,omitempty"`
+	book.Spoken
+	Holder  string `json:"holder,omitempty"`
+	IsAgain bool   `json:"again,omitempty"`
+}
+
+func (q *request) call() error {
+	if _, err := isJSON(q.r, false); err != nil {
+		return err
+	}
+	text, err := q.body(mostCall)
+	if err != nil {
+		return err
+	}
+	item, err := callOf(text, q.names["book"])
+	if err != nil {
+		return err
+	}
+	if q.role < Operate && !forWorkers[item.Command.Kind] {
+		return forbidden(Operate)
+	}
+	answer, err := q.answerOf(item)
+	if err != nil {
+		return err
+	}
+	return q.say(http.StatusOK, told{Made: answer.Made, Opens: answer.Opens, Spoken: answer.Reply.Speak(), Holder: answer.Holder,
+		IsAgain: answer.IsAgain})
+}

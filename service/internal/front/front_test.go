@@ -1,0 +1,676 @@
+package front
+
+import (
+	"bufio"
+	"bytes"
+	"context"
+	"encoding/json"
+	"fmt"
+	"io"
+	"log"
+	"net"
+	"net/http"
+	"net/http/httptest"
+	"reflect"
+	"strings"
+	"sync"
+	"testing"
+	"time"
+
+	"lrcman/service/internal/book"
+	"lrcman/service/internal/engine"
+	"lrcman/service/internal/state"
+)
+
+// local is an engine of one member without a disk. Before each proposal it asks what goes wrong.
+type local struct {
+	mu      sync.Mutex
+	machine *state.State
+	index   uint64
+	wrong   func(payload []byte) (isMade bool, err error)
+	members []engine.Member
+	silent  error // what Barrier returns
+	leader  uint64
+	done    chan struct{}
+}
+
+func (l *local) Propose(_ context.Context, payload []byte) (interface{}, error) {
+	l.mu.Lock()
+	defer l.mu.Unlock()
+	isMade, wrong := true, error(nil)
+	if l.wrong != nil {
+		isMade, wrong = l.wrong(payload)
+	}
+	if !isMade {
+		return nil, wrong
+	}
+	l.index++
+	told, err := l.machine.Apply(l.index, payload)
+	if wrong != nil {
+		return nil, wrong
+	}
+	return told, err
+}
+
+func (l *local) Barrier(context.Context) error { return l.silent }
+
+func (l *local) Status() engine.Status {
+	l.mu.Lock()
+	defer l.mu.Unlock()
+	return engine.Status{ID: 1, Leader: l.leader, Applied: l.index, Members: l.members}
+}
+
+func (l *local) Add(_ context.Context, member engine.Member) error {
+	if member.ID == 9 {
+		return engine.Refused("there is a member 9 already")
+	}
+	l.members = append(l.members, member)
+	return nil
+}
+
+func (l *local) Remove(context.Context, uint64) error { return engine.ErrUnknown }
+func (l *local) Snapshot() error                      { return engine.ErrBusy }
+func (l *local) Done() <-chan struct{}                { return l.done }
+func (l *local) Err() error                           { return nil }
+func (l *local) Close()                               {}
+
+// A service under test.
+type service struct {
+	t      *testing.T
+	engine *local
+	front  *Front
+	url    string
+}
+
+func nodes(slots int) string {
+	var text strings.Builder
+	for i := 0; i < 20; i++ {
+		fmt.Fprintf(&text, "[[node]]\nnumber = %d\nfault = %d\nupgrade = %d\nslots = %d\n", i, i, i%10, slots)
+	}
+	return text.String()
+}
+
+func newService(t *testing.T, change func(*Front)) *service {
+	t.Helper()
+	books := state.New()
+	e := &local{machine: books, leader: 1, done: make(chan struct{})}
+	f := &Front{Engine: e, State: books, Timeout: 2 * time.Second, Log: log.New(io.Discard, "", 0)}
+	if change != nil {
+		change(f)
+	}
+	f.Start()
+	server := httptest.NewUnstartedServer(nil)
+	server.Config = f.Server()
+	server.Start()
+	t.Cleanup(func() { f.Stop(); server.CloseClientConnections(); server.Close() })
+	s := &service{t, e, f, server.URL}
+	s.expect("PUT", "/books/p0", nodes(4), 200, `{"n":0,"opens":1}`)
+	return s
+}
+
+// An option changes a request.
+type option func(*http.Request)
+
+func header(name, value string) option {
+	return func(r *http.Request) {
+		r.Header.Del(name)
+		if value != "" {
+			r.Header.Set(name, value)
+		}
+	}
+}
+
+func (s *service) ask(method, path, body string, options ...option) (*http.Response, string) {
+	s.t.Helper()
+	r, err := http.NewRequest(method, s.url+path, strings.NewReader(body))
+	if err != nil {
+		s.t.Fatal(err)
+	}
+	if strings.HasPrefix(body, "{") {
+		r.Header.Set("Content-Type", "application/json")
+	}
+	for _, option := range options {
+		option(r)
+	}
+	answer, err := http.DefaultClient.Do(r)
+	if err != nil {
+		s.t.Fatal(err)
+	}
+	defer answer.Body.Close()
+	text, err := io.ReadAll(answer.Body)
+	if err != nil {
+		s.t.Fatal(err)
+	}
+	return answer, string(text)
+}
+
+func (s *service) expect(method, path, body string, status int, want string, options ...option) *http.Response {
+	s.t.Helper()
+	answer, text := s.ask(method, path, body, options...)
+	if answer.StatusCode != status || strings.TrimSuffix(text, "\n") != want {
+		s.t.Errorf("%s %s %.200s: %d %s, and not %d %s", method, path, body, answer.StatusCode, text, status, want)
+	}
+	return answer
+}
+
+func (s *service) refused(method, path, body string, status int, words string, options ...option) {
+	s.t.Helper()
+	answer, text := s.ask(method, path, body, options...)
+	var fail failure
+	err := json.Unmarshal([]byte(text), &fail)
+	if err != nil || answer.StatusCode != status || fail.Status != status || !strings.Contains(fail.Words, words) {
+		s.t.Errorf("%s %s %.200s: %d %s, and not %d with %q", method, path, body, answer.StatusCode, text, status, words)
+	}
+}
+
+func (s *service) call(line string) {
+	s.t.Helper()
+	if answer, text := s.ask("POST", "/books/p0/call", fmt.Sprintf(`{"command":%q}`, line)); answer.StatusCode != 200 {
+		s.t.Fatal(line, text)
+	}
+}
+
+func TestACallIsAnsweredInWordsAndNumbers(t *testing.T) {
+	s := newService(t, nil)
+	for _, it := range []struct{ body, want string }{
+		{`{"command":"place6 1"}`, `{"n":1,"opens":1,"reply":"placed 0:0 1:0 2:0 3:0 4:0 5:0 6:0 7:0 8:0 9:0","kind":"placed","seats":[{"node":0,"slot":0},` +
+			`{"node":1,"slot":0},{"node":2,"slot":0},{"node":3,"slot":0},{"node":4,"slot":0},{"node":5,"slot":0},{"node":6,"slot":0},` +
+			`{"node":7,"slot":0},{"node":8,"slot":0},{"node":9,"slot":0}]}`},
+		{`{"command":"fail 1"}`, `{"n":2,"opens":1,"reply":"changed","kind":"changed"}`},
+		{`{"session":3,"command":"lease 1 1","key":"k","worker":"w"}`, `{"n":3,"opens":1,"reply":"granted 1 1 11:0 epoch 1 local 0 2 6","kind":"granted",` +
+			`"stripe":1,"fragment":1,"target":{"node":11,"slot":0},"epoch":1,"repair":"local","sources":[0,2,6]}`},
+		{`{"session":3,"command":"lease 1 1","key":"k","worker":"w"}`, `{"n":3,"opens":1,"reply":"granted 1 1 11:0 epoch 1 local 0 2 6","kind":"granted",` +
+			`"stripe":1,"fragment":1,"target":{"node":11,"slot":0},"epoch":1,"repair":"local","sources":[0,2,6],"again":true}`},
+		{`{"command":"lease 1 1"}`, `{"n":4,"opens":1,"reply":"refused 110 1","kind":"refused","refusal":110,"name":"already leased","detail":1}`},
+		{`{"session":3,"command":"done 1 1 1"}`, `{"opens":1,"reply":"refused 114 3","kind":"refused","refusal":114,"name":"not holder","detail":3,"holder":"w"}`},
+		{`{"command":"tick"}`, `{"n":5,"opens":1,"reply":"ticked 1 0","kind":"ticked","clock":1,"ended":0}`},
+		{`{"session":3,"command":"done 1 1 1","worker":"w"}`, `{"n":6,"opens":1,"reply":"ended","kind":"ended"}`},
+		{`{"command":"next"}`, `{"n":7,"opens":1,"reply":"idle","kind":"idle"}`},
+		{`{"command":"lease 1 0"}`, `{"n":8,"opens":1,"reply":"refused 111","kind":"refused","refusal":111,"name":"not needed"}`},
+		{`{"command":"drop 1","at":8,"opens":1}`, `{"n":9,"opens":1,"reply":"dropped","kind":"dropped"}`},
+	} {
+		s.expect("POST", "/books/p0/call", it.body, 200, it.want)
+	}
+}
+
+func TestBadRequestsAreRefusedByName(t *testing.T) {
+	s := newService(t, nil)
+	long := strings.Repeat("x", 65)
+	for _, it := range []struct {
+		method, path, body string
+		status             int
+		words              string
+	}{
+		{"GET", "/", "", 404, "nothing at this path"},
+		{"GET", "/books/p0/", "", 404, "nothing at this path"},
+		{"GET", "/books//show/status", "", 400, "the name of a book"},
+		{"GET", "/books/-a", "", 400, "the name of a book"},
+		{"GET", "/books/a%2fb", "", 404, "nothing at this path"},
+		{"GET", "/books/a%20b", "", 400, "the name of a book"},
+		{"GET", "/books/" + long, "", 400, "the name of a book"},
+		{"GET", "/books/p9", "", 404, "there is no such book"},
+		{"POST", "/books/p9/call", `{"command":"tick"}`, 404, "there is no book p9"},
+		{"POST", "/books", "", 405, "this takes GET"},
+		{"DELETE", "/books/p0", "", 405, "this takes PUT, GET"},
+		{"POST", "/books/p0/call", `{"command":"tick","sesion":1}`, 400, `there is no field "sesion"`},
+		{"POST", "/books/p0/call", `{"COMMAND":"tick"}`, 400, `there is no field "COMMAND"`},
+		{"POST", "/books/p0/call", `{"command":"tick","key":"a","key":"b"}`, 400, `the field "key" comes twice`},
+		{"POST", "/books/p0/call", `{"command":"tick"} {}`, 400, "goes on behind the JSON object"},
+		{"POST", "/books/p0/call", `{"command":"tick"`, 400, "has no end"},
+		{"POST", "/books/p0/call", `{"command":tick}`, 400, "the body is not JSON"},
+		{"POST", "/books/p0/call", "{\"command\":\"\xff\"}", 400, "not UTF-8"},
+		{"POST", "/books/p0/call", `{"command":1}`, 400, `the field "command" has to be a string and not a number`},
+		{"POST", "/books/p0/call", `{"command":"tick","session":"1"}`, 400, `the field "session" has to be a whole number within its range and not a string`},
+		{"POST", "/books/p0/call", `{"command":"tick","session":-1}`, 400, `the field "session" has to be a whole number within its range`},
+		{"POST", "/books/p0/call", `{"command":"tick","session":1.5}`, 400, `the field "session" has to be a whole number within its range`},
+		{"POST", "/books/p0/call", `{"command":"tick","session":1e99}`, 400, `the field "session"`},
+		{"POST", "/books/p0/call", `{"command":"tick","session":0}`, 400, "the session is out of its range, 1 to 8: 0"},
+		{"POST", "/books/p0/call", `{"command":"tick","session":9}`, 400, "the session is out of its range, 1 to 8: 9"},
+		{"POST", "/books/p0/call", `{"command":"tick","key":"` + long + `"}`, 400, `the field "key"`},
+		{"POST", "/books/p0/call", `{"command":"tick","key":"a b"}`, 400, `the field "key"`},
+		{"POST", "/books/p0/call", `{"command":"tick","worker":"é"}`, 400, `the field "worker"`},
+		{"POST", "/books/p0/call", `{"command":"tick","at":1}`, 400, "come together"},
+		{"POST", "/books/p0/call", `{}`, 400, "the first word is not a command"},
+		{"POST", "/books/p0/call", `{"command":"place"}`, 400, "place takes another number of words"},
+		{"POST", "/books/p0/call", `{"command":"place 4096"}`, 400, "the stripe is out of its range, 0 to 4095: 4096"},
+		{"POST", "/books/p0/call", `{"command":"place 01"}`, 400, "the stripe is not a number"},
+		{"POST", "/books/p0/call", `{"command":"tick","at":1,"opens":1}`, 409, "the book stands at 0, opened 1 times"},
+		{"POST", "/books/p0/call?now=1", `{"command":"tick"}`, 400, `there is no parameter "now" here`},
+		{"POST", "/books/p0/call", `{"command":"` + strings.Repeat("x", 4096) + `"}`, 413, "more than 4096 bytes"},
+		{"PUT", "/books/p0", nodes(5), 409, "made with other nodes"},
+		{"PUT", "/books/p1", "", 422, "the topology has no nodes: topology 2"},
+		{"PUT", "/books/p1", nodes(0), 422, "out of its range: topology 4 0"},
+		{"PUT", "/books/p1", `{"nodes":"x"}`, 400, `the field "image" is missing`},
+		{"PUT", "/books/p1", `{"nodes":"x","image":"y","more":1}`, 400, `there is no field "more"`},
+		{"PUT", "/books/p0/nodes", `{"nodes":"x"}`, 415, "has to be TOML"},
+		{"PUT", "/books/p0/nodes", "node = 3", 422, "topology 2"},
+		{"GET", "/books/p0?now=2", "", 400, `the parameter "now" has to be 0 or 1`},
+		{"GET", "/books/p0?now=1&now=1", "", 400, `the parameter "now" comes twice`},
+		{"GET", "/books/p0?%zz", "", 400, "the parameters can't be read"},
+		{"GET", "/books/p0/show/all", "", 404, "it has to be status, stripes, nodes, leases, work"},
+		{"GET", "/books/p0/show/status?format=xml", "", 400, "has to be csv or json"},
+		{"GET", "/books/p0/stripes/17", "", 404, "there is no stripe 17"},
+		{"GET", "/books/p0/stripes/4096", "", 400, "the stripe is out of its range"},
+		{"GET", "/books/p0/stripes/x", "", 400, "the stripe is not a number"},
+		{"GET", "/books/p0/peek?command=plac+1", "", 400, "the first word is not a command"},
+		{"GET", "/books/p0/peek?command=tick&session=0", "", 400, "the session is out of its range"},
+		{"GET", "/books/p0/may-stop", "", 400, "name a node, a fault or an upgrade"},
+		{"GET", "/books/p0/may-stop?node=20", "", 404, "there is no such node: node 20"},
+		{"GET", "/books/p0/may-lose?fault=20", "", 404, "no node is in this fault domain: fault 20"},
+		{"GET", "/books/p0/may-lose?upgrade=10", "", 404, "no node is in this upgrade domain: upgrade 10"},
+		{"GET", "/books/p0/may-lose?upgrade=256", "", 400, `the parameter "upgrade" is out of its range`},
+		{"GET", "/books/p0/log?from=x", "", 400, `the parameter "from" is not a number`},
+		{"PUT", "/members/0", `{"peer":"h:1","client":"h:2"}`, 400, "the number of a member"},
+		{"PUT", "/members/65536", `{"peer":"h:1","client":"h:2"}`, 400, "the number of a member"},
+		{"PUT", "/members/2", `{"peer":"h","client":"h:2"}`, 400, `the field "peer" has to be HOST:PORT`},
+		{"PUT", "/members/2", `{"peer":"h:1","client":"h:0"}`, 400, `the field "client" has no port`},
+		{"PUT", "/members/2", `{"peer":"h:1","client":"h:2","id":2}`, 400, `there is no field "id"`},
+		{"PUT", "/members/9", `{"peer":"h:1","client":"h:2"}`, 409, "there is a member 9 already"},
+		{"DELETE", "/members/2", "", 504, "nobody knows"},
+		{"POST", "/snapshot", "", 503, "a snapshot is being written"},
+	} {
+		s.refused(it.method, it.path, it.body, it.status, it.words)
+	}
+	s.expect("GET", "/books/p0/log", "", 200, "") // none of them was an entry
+	counts := s.front.Refused()
+	if counts[404] != 10 || counts[413] != 1 || counts[405] != 2 {
+		t.Errorf("counted: %v", counts)
+	}
+}
+
+func TestBodiesHaveATypeAndALength(t *testing.T) {
+	s := newService(t, nil)
+	tick := `{"command":"tick"}`
+	s.refused("POST", "/books/p0/call", tick, 415, "has to be application/json", header("Content-Type", ""))
+	s.refused("POST", "/books/p0/call", tick, 415, "has to be application/json", header("Content-Type", "application/x-www-form-urlencoded"))
+	s.refused("POST", "/books/p0/call", tick, 415, "in UTF-8", header("Content-Type", "application/json; charset=latin1"))
+	s.refused("POST", "/books/p0/call", tick, 415, "no Content-Encoding", header("Content-Encoding", "gzip"))
+	s.refused("PUT", "/books/p1", nodes(4), 415, "application/toml", header("Content-Type", "application/xml"))
+	s.refused("POST", "/books/p0/call", tick, 411, "no length", func(r *http.Request) { r.ContentLength = -1; r.Body = io.NopCloser(strings.NewReader(tick)) })
+	s.expect("POST", "/books/p0/call", tick, 200, `{"n":1,"opens":1,"reply":"ticked 1 0","kind":"ticked","clock":1,"ended":0}`,
+		header("Content-Type", "application/json; charset=UTF-8"))
+	answer, text := s.ask("POST", "/books", "")
+	if answer.Header.Get("Allow") != "GET" {
+		t.Error(answer.Header, text)
+	}
+}
+
+func TestATooLargeBodyIsRefusedBeforeItComes(t *testing.T) {
+	s := newService(t, nil)
+	c := s.dial()
+	fmt.Fprintf(c, "PUT /books/p1 HTTP/1.1\r\nHost: x\r\nContent-Length: 999999999999\r\n\r\n")
+	s.status(c, 413)
+}
+
+func (s *service) dial() net.Conn {
+	s.t.Helper()
+	c, err := net.Dial("tcp", strings.TrimPrefix(s.url, "http://"))
+	if err != nil {
+		s.t.Fatal(err)
+	}
+	s.t.Cleanup(func() { c.Close() })
+	c.SetDeadline(time.Now().Add(20 * time.Second))
+	return c
+}
+
+func (s *service) status(c net.Conn, want int) {
+	s.t.Helper()
+	answer, err := http.ReadResponse(bufio.NewReader(c), nil)
+	if err != nil || answer.StatusCode != want {
+		s.t.Errorf("%v %v, and not %d", answer, err, want)
+	}
+}
+
+func TestASlowBodyIsRefused(t *testing.T) {
+	before := bodyTime
+	bodyTime = 200 * time.Millisecond
+	defer func() { bodyTime = before }()
+	s := newService(t, nil)
+	c := s.dial()
+	fmt.Fprintf(c, "POST /books/p0/call HTTP/1.1\r\nHost: x\r\nContent-Type: application/json\r\nContent-Length: 100\r\n\r\n{")
+	s.status(c, 408)
+	c = s.dial() // a head that does not end is cut off without an answer
+	fmt.Fprintf(c, "GET /health HTTP/1.1\r\nHost:")
+	if text, err := io.ReadAll(c); err != nil || len(text) > 0 && !bytes.Contains(text, []byte("40")) {
+		t.Errorf("%q %v", text, err)
+	}
+	c = s.dial() // a connection on which a request came in time is kept, however long the next one takes to begin
+	body := `{"command":"tick"}`
+	for i := 0; i < 2; i++ {
+		fmt.Fprintf(c, "POST /books/p0/call HTTP/1.1\r\nHost: x\r\nContent-Type: application/json\r\nContent-Length: %d\r\n\r\n%s", len(body), body)
+		s.status(c, 200)
+		time.Sleep(2 * bodyTime)
+	}
+}
+
+func TestALookTellsHowNewItIs(t *testing.T) {
+	s := newService(t, nil)
+	s.call("place 1")
+	answer, text := s.ask("GET", "/books/p0/stripes/1?now=1", "")
+	var look struct {
+		N, Opens, Index uint64
+		Age             int64 `json:"age_ms"`
+		Rows            []map[string]interface{}
+	}
+	if err := json.Unmarshal([]byte(text), &look); err != nil {
+		t.Fatal(err)
+	}
+	if look.N != 1 || look.Opens != 1 || look.Index != 2 || look.Age < 0 || look.Age > 1000 || len(look.Rows) != 1 {
+		t.Error(text)
+	}
+	for name, want := range map[string]string{"Lrcmand-Entries": "1", "Lrcmand-Opens": "1", "Lrcmand-Index": "2", "Lrcmand-Age-Ms": fmt.Sprint(look.Age)} {
+		if have := answer.Header.Get(name); have != want {
+			t.Errorf("%s: %s and not %s", name, have, want)
+		}
+	}
+	row := look.Rows[0]
+	if row["level"] != "whole" || row["margin"] != 3.0 || row["home_12"] != "16:0" || row["missing"] != "0x0000" || fmt.Sprint(row["missing_fragments"]) != "[]" {
+		t.Error(row)
+	}
+}
+
+func TestALookGrowsOldWhereNobodyAnswers(t *testing.T) {
+	s := newService(t, func(f *Front) { f.Engine.(*local).silent = engine.ErrNoLeader })
+	age := func() string {
+		answer, _ := s.ask("GET", "/books/p0", "")
+		return answer.Header.Get("Lrcmand-Age-Ms")
+	}
+	if have := age(); have != "-1" {
+		t.Error(have)
+	}
+	s.refused("GET", "/books/p0?now=1", "", 503, "there is no leader")
+	s.refused("GET", "/health", "", 503, "there is no leader")
+	s.front.fresh = int64(time.Since(s.front.begun) - 3*time.Second)
+	if have := age(); len(have) != 4 || have < "3000" || have > "3900" {
+		t.Error(have)
+	}
+	s.expect("GET", "/health", "", 200, `{"ok":true}`)
+	s.front.fresh -= int64(3 * time.Second)
+	s.refused("GET", "/health", "", 503, "there is no leader")
+}
+
+func TestTablesAreThoseOfShow(t *testing.T) {
+	s := newService(t, nil)
+	for _, line := range []string{"place6 1", "fail 1", "lease 1 1", "drain 2", "down 3"} {
+		s.call(line)
+	}
+	homes := "home_0,home_1,home_2,home_3,home_4,home_5,home_6,home_7,home_8,home_9,home_10,home_11,home_12,home_13,home_14,home_15"
+	for path, want := range map[string]string{
+		"show/stripes": "stripe,code,level,margin,missing,missing_fragments,homeless,homeless_fragments," + homes +
+			"\n1,narrow,risk,2,0x000a,1 3,0x0002,1,0:0,-,2:0,3:0,4:0,5:0,6:0,7:0,8:0,9:0,,,,,,",
+		"stripes/1": "stripe,code,level,margin,missing,missing_fragments,homeless,homeless_fragments," + homes +
+			"\n1,narrow,risk,2,0x000a,1 3,0x0002,1,0:0,-,2:0,3:0,4:0,5:0,6:0,7:0,8:0,9:0,,,,,,",
+		"show/leases": "stripe,fragment,holder,target,epoch,expiry\n1,1,1,11:0,1,3",
+		"show/work":   "stripe,fragment,kind,sources,reads,standing,holder,epoch\n1,1,local,0 2 6,3,leased,1,1\n1,2,move,,1,open,,",
+		"may-stop?node=0&node=6": "stripe,code,level_before,margin_before,level_after,margin_after,missing_after,missing_fragments_after,leases_ended,harmed" +
+			"\n1,narrow,risk,2,risk,0,0x004b,0 1 3 6,0,no",
+		"may-lose?node=0&fault=6&upgrade=2": "stripe,code,level_before,margin_before,level_after,margin_after,missing_after,missing_fragments_after,leases_ended,harmed" +
+			"\n1,narrow,risk,2,lost,-,0x004f,0 1 2 3 6,0,yes",
+	} {
+		separator := "?"
+		if strings.Contains(path, "?") {
+			separator = "&"
+		}
+		answer := s.expect("GET", "/books/p0/"+path+separator+"format=csv", "", 200, want)
+		if kind := answer.Header.Get("Content-Type"); kind != "text/csv; charset=utf-8" {
+			t.Error(kind)
+		}
+	}
+	_, text := s.ask("GET", "/books/p0/may-lose?node=0&node=6&upgrade=2", "")
+	if !strings.Contains(text, `"safe":false,"rows":[{"stripe":1,"code":"narrow","level_before":"risk","margin_before":2,"level_after":"lost","margin_after":null,`) {
+		t.Error(text)
+	}
+	_, text = s.ask("GET", "/books/p0/peek?command=lease+1+2&session=2", "")
+	if !strings.Contains(text, `"n":5,`) || !strings.Contains(text, `"reply":"granted 1 2 12:0 epoch 1 move"`) {
+		t.Error(text)
+	}
+	s.expect("GET", "/books/p0/nodes", "", 200, strings.TrimSuffix(nodes(4), "\n"))
+	_, text = s.ask("GET", "/books/p0/image", "")
+	if !strings.HasPrefix(text, "image 1\nbefore 5\nclock 0\n") || !strings.HasSuffix(text, "\nend\n") {
+		t.Error(text)
+	}
+}
+
+func TestABookBeginsInAnImage(t *testing.T) {
+	s := newService(t, nil)
+	s.call("place 1")
+	_, image := s.ask("GET", "/books/p0/image", "")
+	body, err := json.Marshal(createBody{nodes(4), image})
+	if err != nil {
+		t.Fatal(err)
+	}
+	s.expect("PUT", "/books/p1", string(body), 200, `{"n":1,"opens":1}`)
+	s.expect("PUT", "/books/p1", string(body), 200, `{"n":0,"opens":1,"again":true}`)
+	_, again := s.ask("GET", "/books/p1/image", "")
+	if again != image {
+		t.Error(again)
+	}
+	s.expect("PUT", "/books/p1/nodes", nodes(5), 200, `{"n":1,"opens":2}`)
+	s.refused("GET", "/books/p1/log?from=0", "", 410, "the entries up to number 1 are forgotten")
+	_, text := s.ask("GET", "/books", "")
+	if !strings.Contains(text, `"books":[{"name":"p0","n":1,"opens":1},{"name":"p1","n":1,"opens":2}]`) {
+		t.Error(text)
+	}
+}
+
+// lines reads a stream.
+func (s *service) lines(path string) (next func() told, end func()) {
+	s.t.Helper()
+	ctx, cancel := context.WithTimeout(context.Background(), 20*time.Second)
+	r, err := http.NewRequestWithContext(ctx, "GET", s.url+path, nil)
+	if err != nil {
+		s.t.Fatal(err)
+	}
+	answer, err := http.DefaultClient.Do(r)
+	if err != nil || answer.StatusCode != 200 {
+		s.t.Fatal(answer, err)
+	}
+	reader := bufio.NewReader(answer.Body)
+	return func() (entry told) {
+		line, err := reader.ReadBytes('\n')
+		if err == nil {
+			err = json.Unmarshal(line, &entry)
+		}
+		if err != nil {
+			s.t.Fatal(string(line), err)
+		}
+		return entry
+	}, func() { cancel(); answer.Body.Close() }
+}
+
+func TestALogIsAStream(t *testing.T) {
+	s := newService(t, nil)
+	for i := 0; i < ofStream+10; i++ {
+		s.call("tick")
+	}
+	next, end := s.lines("/books/p0/log?from=5&follow=1")
+	defer end()
+	for n := uint64(6); n <= ofStream+10; n++ {
+		if entry := next(); entry.Made != n || entry.Command != "tick" || entry.Session != 1 || entry.Reply != fmt.Sprintf("ticked %d 0", n) {
+			t.Fatalf("%+v", entry)
+		}
+	}
+	s.call("place 1")
+	if entry := next(); entry.Made != ofStream+11 || entry.Command != "place 1" || len(entry.Seats) != book.Fragments {
+		t.Fatalf("%+v", entry)
+	}
+	_, text := s.ask("GET", fmt.Sprintf("/books/p0/log?from=%d", ofStream+9), "")
+	if strings.Count(text, "\n") != 2 {
+		t.Error(text)
+	}
+}
+
+func TestOpenStreamsAreLimited(t *testing.T) {
+	s := newService(t, nil)
+	for i := 0; i < mostStreams; i++ {
+		_, end := s.lines("/books/p0/log?follow=1")
+		defer end()
+	}
+	s.refused("GET", "/books/p0/log?follow=1", "", 429, "64 streams are open already")
+}
+
+func TestRolesAllowWhatThePageSays(t *testing.T) {
+	tokens := "# tokens\nlook lookslookslookslooks\n\nwork worksworksworksworks\noperate operatesoperates1\n"
+	rights, err := ReadRights(strings.NewReader(tokens))
+	if err != nil {
+		t.Fatal(err)
+	}
+	s := newService(t, nil)
+	s.front.Rights = rights
+	for _, it := range []struct {
+		method, path, body  string
+		look, work, operate int
+	}{
+		{"GET", "/books", "", 200, 200, 200},
+		{"GET", "/status", "", 200, 200, 200},
+		{"GET", "/members", "", 200, 200, 200},
+		{"POST", "/books/p0/call", `{"command":"place 1"}`, 403, 200, 200},
+		{"POST", "/books/p0/call", `{"command":"place6 2"}`, 403, 200, 200},
+		{"POST", "/books/p0/call", `{"command":"drop 9"}`, 403, 200, 200},
+		{"POST", "/books/p0/call", `{"command":"lease 1 1"}`, 403, 200, 200},
+		{"POST", "/books/p0/call", `{"command":"next"}`, 403, 200, 200},
+		{"POST", "/books/p0/call", `{"command":"done 1 1 1"}`, 403, 200, 200},
+		{"POST", "/books/p0/call", `{"command":"abandon 1 1 1"}`, 403, 200, 200},
+		{"POST", "/books/p0/call", `{"command":"revoke 1 1"}`, 403, 403, 200},
+		{"POST", "/books/p0/call", `{"command":"fail 1"}`, 403, 403, 200},
+		{"POST", "/books/p0/call", `{"command":"tick"}`, 403, 403, 200},
+		{"POST", "/books/p0/call", `{"command":"upgrade 1"}`, 403, 403, 200},
+		{"PUT", "/books/p1", nodes(4), 403, 403, 200},
+		{"PUT", "/books/p0/nodes", nodes(5), 403, 403, 200},
+		{"PUT", "/members/2", `{"peer":"h:1","client":"h:2"}`, 403, 403, 200},
+		{"DELETE", "/members/2", "", 403, 403, 504},
+		{"POST", "/snapshot", "", 403, 403, 503},
+	} {
+		s.refused(it.method, it.path, it.body, 401, "no token")
+		s.refused(it.method, it.path, it.body, 401, "the token is unknown", header("Authorization", "Bearer xxxxxxxxxxxxxxxx"))
+		for token, want := range map[string]int{"lookslookslookslooks": it.look, "worksworksworksworks": it.work, "operatesoperates1": it.operate} {
+			answer, text := s.ask(it.method, it.path, it.body, header("Authorization", "Bearer "+token))
+			if answer.StatusCode != want {
+				t.Errorf("%s %s %s with %s: %d %s", it.method, it.path, it.body, token, answer.StatusCode, text)
+			}
+		}
+	}
+	s.expect("GET", "/health", "", 200, `{"ok":true}`)
+	for text, want := range map[string]string{
+		"": "it has no token", "look": "line 1 has to be ROLE TOKEN", "# x\nlock aaaaaaaaaaaaaaaa": `line 2: there is no role "lock"`, "work short": "less than 16",
+	} {
+		if _, err := ReadRights(strings.NewReader(text)); err == nil || !strings.Contains(err.Error(), want) {
+			t.Errorf("%q: %v", text, err)
+		}
+	}
+}
+
+func TestNobodyKnowsIsToldOrTriedAgain(t *testing.T) {
+	s := newService(t, nil)
+	lost := func(times int, isMade bool, err error) {
+		s.engine.mu.Lock()
+		defer s.engine.mu.Unlock()
+		s.engine.wrong = func([]byte) (bool, error) {
+			if times--; times >= 0 {
+				return isMade, err
+			}
+			return true, nil
+		}
+	}
+	lost(2, true, engine.ErrUnknown) // it was made, and the word of it is lost: with a key it is asked for again
+	s.expect("POST", "/books/p0/call", `{"command":"tick","key":"a"}`, 200, `{"n":1,"opens":1,"reply":"ticked 1 0","kind":"ticked","clock":1,"ended":0,"again":true}`)
+	lost(2, false, engine.ErrUnknown)
+	s.expect("POST", "/books/p0/call", `{"command":"tick","key":"b"}`, 200, `{"n":2,"opens":1,"reply":"ticked 2 0","kind":"ticked","clock":2,"ended":0}`)
+	lost(1, true, engine.ErrUnknown) // without a key its caller is told that nobody knows
+	s.expect("POST", "/books/p0/call", `{"command":"tick"}`, 504, `{"status":504,"error":"nobody knows whether it was made","maybe":true}`)
+	s.expect("POST", "/books/p0/call", `{"command":"tick"}`, 200, `{"n":4,"opens":1,"reply":"ticked 4 0","kind":"ticked","clock":4,"ended":0}`)
+	lost(2, false, engine.ErrNoLeader) // nothing was made: it is tried again in any case
+	s.expect("POST", "/books/p0/call", `{"command":"tick"}`, 200, `{"n":5,"opens":1,"reply":"ticked 5 0","kind":"ticked","clock":5,"ended":0}`)
+	lost(1000000, false, engine.ErrNoLeader)
+	s.refused("POST", "/books/p0/call", `{"command":"tick"}`, 503, "there is no leader")
+}
+
+func TestTheLeaderTicksBooksWithLeases(t *testing.T) {
+	s := newService(t, func(f *Front) { f.Tick = 160 * time.Millisecond })
+	s.call("place 1")
+	time.Sleep(400 * time.Millisecond)
+	if _, text := s.ask("GET", "/books/p0/log", ""); strings.Count(text, "\n") != 1 {
+		t.Errorf("without a lease: %s", text)
+	}
+	s.call("fail 1")
+	s.call("next")
+	next, end := s.lines("/books/p0/log?follow=1&from=3")
+	defer end()
+	for clock := 1; clock <= 3; clock++ {
+		if entry := next(); entry.Reply != fmt.Sprintf("ticked %d %d", clock, clock/3) {
+			t.Fatalf("%+v", entry)
+		}
+	}
+	s.engine.mu.Lock()
+	s.engine.leader = 2
+	s.engine.mu.Unlock()
+	s.call("next")
+	time.Sleep(400 * time.Millisecond)
+	if _, text := s.ask("GET", "/books/p0/log?from=6", ""); strings.Count(text, "\n") != 1 {
+		t.Errorf("of another leader: %s", text)
+	}
+}
+
+func TestVersionAndMembers(t *testing.T) {
+	s := newService(t, nil)
+	s.engine.members = []engine.Member{{ID: 1, Peer: "h:1", Client: "h:2"}}
+	s.expect("GET", "/members", "", 200, `{"members":[{"id":1,"peer":"h:1","client":"h:2","leader":true}]}`)
+	s.expect("PUT", "/members/2", `{"peer":"i:1","client":"i:2"}`, 200,
+		`{"members":[{"id":1,"peer":"h:1","client":"h:2","leader":true},{"id":2,"peer":"i:1","client":"i:2","leader":false}]}`)
+	_, text := s.ask("GET", "/version", "")
+	if !strings.HasPrefix(text, fmt.Sprintf(`{"service":1,"form":1,"interface":%d,"rules":%d,"go":"go1`, book.Interface(), book.Rules())) {
+		t.Error(text)
+	}
+	_, text = s.ask("GET", "/status", "")
+	if !strings.Contains(text, `"id":1,"leader":1,`) || !strings.Contains(text, `"refused":{}`) {
+		t.Error(text)
+	}
+}
+
+func TestManyCallsAtOnceAreAllAnsweredOnce(t *testing.T) {
+	s := newService(t, nil)
+	var wait sync.WaitGroup
+	seen := make([]uint64, 400)
+	for i := range seen {
+		wait.Add(1)
+		go func(i int) {
+			defer wait.Done()
+			answer, err := s.front.do(context.Background(), &state.Item{Action: state.Call, Book: "p0", Session: 1, Command: book.Command{Kind: book.Tick}})
+			if err == nil {
+				seen[i] = answer.Made
+			}
+		}(i)
+	}
+	wait.Wait()
+	numbers := map[uint64]bool{}
+	for _, made := range seen {
+		numbers[made] = true
+	}
+	if len(numbers) != len(seen) || numbers[0] || !numbers[uint64(len(seen))] {
+		t.Errorf("%d of %d", len(numbers), len(seen))
+	}
+}
+
+func FuzzCall(f *testing.F) {
+	for _, text := range []string{`{"command":"tick"}`, `{"session":8,"command":"done 4095 15 4294967295","key":"k","worker":"w","at":1,"opens":2}`,
+		`{"command":"place 4096"}`, `{"session":256,"command":"next"}`, `{"command":"next","key":null}`, `[]`, `{"a":{"b":[1e999]}}`, "{\"command\":\"\x00\"}",
+		`{"COMMAND":"tick"}`, `{"command":"tick","command":"next"}`} {
+		f.Add([]byte(text))
+	}
+	f.Fuzz(func(t *testing.T, text []byte) {
+		item, err := callOf(text, "p0")
+		if err != nil {
+			if fail := failureOf(err); fail.Status != http.StatusBadRequest || fail.Words == "" {
+				t.Errorf("%q: %+v", text, fail)
+			}
+			return
+		}
+		if item.Session < 1 || item.Session > book.Sessions || len(item.Key) > mostName || len(item.Worker) > mostName {
+			t.Errorf("%q: %+v", text, item)
+		}
+		again, err := book.Parse(item.Command.String())
+		if err != nil || !reflect.DeepEqual(again, item.Command) {
+			t.Errorf("%q: %v %v", text, item.Command, err)
+		}
+	})
+}

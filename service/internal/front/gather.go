@@ -1,0 +1,190 @@
+package front
+
+import (
+	"context"
+	"sync/atomic"
+	"time"
+
+	"lrcman/service/internal/book"
+	"lrcman/service/internal/engine"
+	"lrcman/service/internal/state"
+)
+
+const (
+	underWay  = 4         // entries that are proposed at once
+	ofEntry   = 512       // items of an entry, at most
+	bytesOf   = 512 << 10 // texts of an entry beyond which no item is added
+	mayWait   = 4096      // items
+	retryTime = 10 * time.Millisecond
+)
+
+// A pending is an item that waits for its answer.
+type pending struct {
+	item   *state.Item
+	isLeft int32 // atomic: 0, or 1 once it is taken into an entry or its caller is gone, whichever was first
+	answer state.Answer
+	err    error
+	done   chan struct{}
+}
+
+func (p *pending) take() bool { return atomic.CompareAndSwapInt32(&p.isLeft, 0, 1) }
+
+// tellEarly is nil; a faulty program, which only tests make, answers with it before anything is in the log.
+var tellEarly func(*Front, *state.Item) (state.Answer, bool)
+
+// do brings an item into the log and returns its answer.
+func (f *Front) do(ctx context.Context, item *state.Item) (state.Answer, error) {
+	p := &pending{item: item, done: make(chan struct{})}
+	select {
+	case f.queue <- p:
+	default:
+		return state.Answer{}, errBusy
+	}
+	if tellEarly != nil {
+		if answer, ok := tellEarly(f, item); ok {
+			return answer, nil
+		}
+	}
+	select {
+	case <-p.done:
+		return p.answer, p.err
+	case <-ctx.Done():
+		if p.take() {
+			return state.Answer{}, engine.ErrNoLeader // it was never proposed
+		}
+		return state.Answer{}, engine.ErrUnknown
+	}
+}
+
+// gather makes an entry of all items that came while those before were under way: one sync serves them all.
+func (f *Front) gather() {
+	slots := make(chan struct{}, underWay)
+	for {
+		select {
+		case first := <-f.queue:
+			select {
+			case slots <- struct{}{}: // while this waits the queue fills: a slow disk makes greater entries, not more of them
+			case <-f.stop:
+				return
+			}
+			if batch := f.batch(first); len(batch) > 0 {
+				go func() {
+					f.propose(batch)
+					<-slots
+				}()
+			} else {
+				<-slots
+			}
+		case <-f.stop:
+			return
+		}
+	}
+}
+
+// batch takes what waits into one entry, but for those whose callers are gone.
+func (f *Front) batch(first *pending) []*pending {
+	var batch []*pending
+	size := 0
+	for p := first; ; {
+		if p.take() {
+			batch = append(batch, p)
+			size += len(p.item.Nodes) + len(p.item.Image)
+		}
+		if len(batch) >= ofEntry || size >= bytesOf {
+			return batch
+		}
+		select {
+		case p = <-f.queue:
+		default:
+			return batch
+		}
+	}
+}
+
+func (f *Front) propose(batch []*pending) {
+	items := make([]*state.Item, len(batch))
+	for i, p := range batch {
+		items[i] = p.item
+	}
+	answers, err := f.proposeItems(items)
+	for i, p := range batch {
+		if p.err = err; err == nil {
+			p.answer = answers[i]
+		}
+		close(p.done)
+	}
+}
+
+// proposeItems proposes an entry until it is told. Where nothing was proposed it tries again. Where nobody knows, it does so
+// only if no item of the entry would be made twice by that.
+func (f *Front) proposeItems(items []*state.Item) ([]state.Answer, error) {
+	ctx, cancel := context.WithTimeout(context.Background(), f.Timeout*9/10) // so that those who wait hear how it ended
+	defer cancel()
+	payload := state.Encode(items)
+	for {
+		told, err := f.Engine.Propose(ctx, payload)
+		if err == nil {
+			return told.([]state.Answer), nil
+		}
+		mayRepeat := err == engine.ErrNoLeader || err == engine.ErrUnknown && areOnce(items)
+		if !mayRepeat || ctx.Err() != nil {
+			return nil, err
+		}
+		select {
+		case <-time.After(retryTime):
+		case <-f.Engine.Done():
+			return nil, err
+		}
+	}
+}
+
+// areOnce tells whether each of the items, if it comes twice, is made once.
+func areOnce(items []*state.Item) bool {
+	for _, item := range items {
+		if item.Action == state.Call && item.Key == "" || item.Action == state.Reopen {
+			return false
+		}
+	}
+	return true
+}
+
+// tick makes each book that has a live lease tick, in turn, while this member leads.
+func (f *Front) tick(every time.Duration) {
+	isLeader, since := false, time.Now()
+	check := time.NewTicker(every / 16)
+	defer check.Stop()
+	for {
+		select {
+		case <-check.C:
+		case <-f.stop:
+			return
+		}
+		status := f.Engine.Status()
+		if leads := status.Leader == status.ID; !leads || !isLeader {
+			isLeader, since = leads, time.Now() // a new leader waits for a whole interval: a lease lasts longer, never shorter
+		} else if time.Since(since) >= every {
+			since = since.Add(every)
+			f.tickAll()
+		}
+	}
+}
+
+// tickAll makes each book with a live lease tick.
+func (f *Front) tickAll() {
+	for _, name := range f.State.Names() {
+		hasLease := false
+		err := f.State.Look(name, func(view *state.View) error {
+			hasLease = view.HasLease()
+			return nil
+		})
+		if err != nil || !hasLease {
+			continue
+		}
+		ctx, cancel := context.WithTimeout(context.Background(), f.Timeout)
+		item := &state.Item{Action: state.Call, Book: name, Session: 1, Command: book.Command{Kind: book.Tick}}
+		if _, err := f.do(ctx, item); err != nil {
+			f.Log.Printf("book %s did not tick: %v", name, err)
+		}
+		cancel()
+	}
+}

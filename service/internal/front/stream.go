@@ -1,0 +1,114 @@
+package front
+
+import (
+	"encoding/json"
+	"fmt"
+	"math"
+	"net/http"
+	"time"
+
+	"lrcman/service/internal/book"
+	"lrcman/service/internal/state"
+)
+
+// ofStream is how many entries a stream writes at once.
+const ofStream = 256
+
+// keepAlive is how often a stream in which nothing comes gets an empty line.
+const keepAlive = 15 * time.Second
+
+func (q *request) log() error {
+	from, err := book.ParseNumber(q.query.Get("from"), math.MaxUint64)
+	if q.query.Get("from") == "" {
+		from, err = 0, nil
+	}
+	if err != nil {
+		return bad("the parameter \"from\" %v", err)
+	}
+	select {
+	case q.streams <- struct{}{}:
+		defer func() { <-q.streams }()
+	default:
+		return &failure{Status: http.StatusTooManyRequests, Words: fmt.Sprintf("%d streams are open already", mostStreams)}
+	}
+	rows, grown, err := q.entries(from)
+	if err != nil {
+		return err
+	}
+	q.w.Header().Set("Content-Type", "application/x-ndjson")
+	q.w.Header().Set("Cache-Control", "no-store")
+	q.w.WriteHeader(http.StatusOK)
+	q.stream(from, rows, grown)
+	return nil
+}
+
+func (q *request) entries(from uint64) (rows []book.Entry, grown <-chan struct{}, err error) {
+	err = q.State.Look(q.names["book"], func(view *state.View) (err error) {
+		grown = view.Grown()
+		rows, err = view.Entries(from, ofStream)
+		return err
+	})
+	return rows, grown, err
+}
+
+// stream writes entries, and waits for further ones if the client follows. What goes wrong is the last line.
+func (q *request) stream(from uint64, rows []book.Entry, grown <-chan struct{}) {
+	for {
+		if !q.writeEntries(from, rows) {
+			return
+		}
+		from += uint64(len(rows))
+		if len(rows) == 0 && !q.wait(grown) {
+			return
+		}
+		var err error
+		if rows, grown, err = q.entries(from); err != nil {
+			text, _ := json.Marshal(failureOf(err))
+			q.w.Write(append(text, '\n'))
+			return
+		}
+	}
+}
+
+func (q *request) writeEntries(from uint64, rows []book.Entry) bool {
+	var text []byte
+	for i := range rows {
+		line, err := json.Marshal(told{Made: from + uint64(i) + 1, Session: rows[i].Session, Command: rows[i].Command.String(),
+			Spoken: rows[i].Reply.Speak()})
+		if err != nil {
+			return false
+		}
+		text = append(append(text, line...), '\n')
+	}
+	return q.pass(text)
+}
+
+func (q *request) pass(text []byte) bool {
+	q.limitWrite()
+	_, err := q.w.Write(text)
+	if flusher, ok := q.w.(http.Flusher); ok {
+		flusher.Flush()
+	}
+	return err == nil
+}
+
+// wait returns true when an entry has come, and false when the stream is over.
+func (q *request) wait(grown <-chan struct{}) bool {
+	if q.query.Get("follow") != "1" {
+		return false
+	}
+	for {
+		select {
+		case <-grown:
+			return true
+		case <-time.After(keepAlive):
+			if !q.pass([]byte("\n")) {
+				return false
+			}
+		case <-q.r.Context().Done():
+			return false
+		case <-q.stop:
+			return false
+		}
+	}
+}

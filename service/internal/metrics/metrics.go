@@ -1,0 +1,296 @@
+// Package metrics tells Prometheus how a member, its group and its books fare.
+//
+// What is told of books comes from a survey.Watcher, and is collected when it is asked for. What is told of requests is counted
+// by Wrap. Labels have few values: a book, a level, a node's mode, a domain, a command, a refusal, a route; never a stripe, a
+// node or a worker.
+package metrics
+
+import (
+	"net/http"
+	"os"
+	"strconv"
+	"sync"
+	"time"
+
+	"github.com/prometheus/client_golang/prometheus"
+	"github.com/prometheus/client_golang/prometheus/collectors"
+	"github.com/prometheus/client_golang/prometheus/promhttp"
+
+	"lrcman/service/internal/book"
+	"lrcman/service/internal/engine"
+	"lrcman/service/internal/survey"
+)
+
+// Sources are what metrics are made of.
+type Sources struct {
+	Watcher *survey.Watcher
+	Status  func() engine.Status
+	Folder  string // of the snapshots; "": nothing is told of their age
+	Version string
+	Refusal func(uint8) string // the word for a refusal
+}
+
+// Metrics are those of one member.
+type Metrics struct {
+	registry *prometheus.Registry
+	requests *prometheus.CounterVec
+	duration *prometheus.HistogramVec
+	calls    *prometheus.HistogramVec
+}
+
+var seconds = []float64{.001, .002, .005, .01, .02, .05, .1, .2, .5, 1, 2, 5, 10}
+
+// New makes metrics.
+func New(from Sources) *Metrics {
+	m := &Metrics{
+		registry: prometheus.NewRegistry(),
+		requests: prometheus.NewCounterVec(prometheus.CounterOpts{Name: "lrcmand_http_requests_total",
+			Help: "Requests that were answered, by route and status."}, []string{"route", "status"}),
+		duration: prometheus.NewHistogramVec(prometheus.HistogramOpts{Name: "lrcmand_http_request_duration_seconds",
+			Help: "How long requests took, but for streams.", Buckets: seconds}, []string{"route"}),
+		calls: prometheus.NewHistogramVec(prometheus.HistogramOpts{Name: "lrcmand_call_duration_seconds",
+			Help: "How long calls took that were answered with 200, which is after a majority had them on disk.", Buckets: seconds},
+			[]string{"book"}),
+	}
+	build := prometheus.NewGauge(prometheus.GaugeOpts{Name: "lrcmand_build_info", Help: "Versions of program, interface and rules.",
+		ConstLabels: prometheus.Labels{"version": from.Version, "interface": number(book.Interface()), "rules": number(book.Rules())}})
+	build.Set(1)
+	m.registry.MustRegister(m.requests, m.duration, m.calls, build, &collector{from}, collectors.NewGoCollector(),
+		collectors.NewProcessCollector(collectors.ProcessCollectorOpts{}))
+	return m
+}
+
+func number(n uint32) string { return strconv.FormatUint(uint64(n), 10) }
+
+// Handler answers with the metrics as they are.
+func (m *Metrics) Handler() http.Handler {
+	return promhttp.HandlerFor(m.registry, promhttp.HandlerOpts{MaxRequestsInFlight: 4, EnableOpenMetrics: true})
+}
+
+// Registry has all metrics.
+func (m *Metrics) Registry() *prometheus.Registry { return m.registry }
+
+// A collector makes the metrics of the group and of books when they are asked for.
+type collector struct{ Sources }
+
+func desc(name, help string, labels ...string) *prometheus.Desc {
+	return prometheus.NewDesc("lrcmand_"+name, help, labels, nil)
+}
+
+// The metrics of this member and its group.
+var (
+	leaderDesc   = desc("raft_leader", "Number of the leader that this member knows; 0: none.")
+	isLeaderDesc = desc("raft_is_leader", "1 if this member is the leader.")
+	membersDesc  = desc("raft_members", "Members of the group.")
+	termDesc     = desc("raft_term", "Term of Raft.")
+	commitDesc   = desc("raft_committed_index", "Last entry of the log that this member knows a majority has.")
+	appliedDesc  = desc("raft_applied_index", "Last entry of the log that this member has applied.")
+	snapDesc     = desc("raft_snapshot_index", "Last entry of the log in the newest snapshot.")
+	firstDesc    = desc("raft_first_index", "First entry of the log that this member still has.")
+	ageDesc      = desc("snapshot_age_seconds", "Time since the newest snapshot was written; absent before the first.")
+	booksDesc    = desc("books", "Books.")
+)
+
+// The metrics of a book.
+var (
+	entriesDesc   = desc("entries_total", "Entries of the book.", "book")
+	clockDesc     = desc("ticks_total", "Ticks of the book's clock.", "book")
+	commandsDesc  = desc("commands_total", "Commands applied since this member began, by command and reply.", "book", "command", "reply")
+	refusalsDesc  = desc("refusals_total", "Commands that the rules refused since this member began.", "book", "refusal", "name")
+	expiredDesc   = desc("leases_expired_total", "Leases that ended by a tick since this member began.", "book")
+	missedDesc    = desc("commands_unseen_total", "Commands that the book forgot before they were counted.", "book")
+	stripesDesc   = desc("stripes", "Stripes, by level and by how many further losses they survive.", "book", "level", "margin")
+	missingDesc   = desc("missing_fragments", "Fragments without a home on an online node.", "book")
+	homelessDesc  = desc("homeless_fragments", "Fragments without any home.", "book")
+	workDesc      = desc("work_fragments", "Fragments that need a lease, by standing.", "book", "standing")
+	leasesDesc    = desc("leases", "Live leases, by age in ticks. A lease ends at the third.", "book", "age_ticks")
+	oldestDesc    = desc("lease_oldest_seconds", "Time since the oldest live lease was granted, or first seen; 0: no lease.", "book")
+	nodesDesc     = desc("nodes", "Nodes, by mode.", "book", "mode")
+	downDesc      = desc("nodes_down", "Nodes that are reported down.", "book")
+	onlineDesc    = desc("nodes_online", "Nodes that are online.", "book")
+	seatsDesc     = desc("domain_held_seats", "Homes and targets in a fault or upgrade domain.", "book", "kind", "domain")
+	slotsDesc     = desc("domain_slots", "Slots of the nodes in a fault or upgrade domain.", "book", "kind", "domain")
+	upgradingDesc = desc("upgrading", "1 if an upgrade domain is upgrading.", "book")
+	costDesc      = desc("survey_duration_seconds", "How long the last survey of the book took.", "book")
+)
+
+var descs = []*prometheus.Desc{leaderDesc, isLeaderDesc, membersDesc, termDesc, commitDesc, appliedDesc, snapDesc, firstDesc, ageDesc,
+	booksDesc, entriesDesc, clockDesc, commandsDesc, refusalsDesc, expiredDesc, missedDesc, stripesDesc, missingDesc, homelessDesc,
+	workDesc, leasesDesc, oldestDesc, nodesDesc, downDesc, onlineDesc, seatsDesc, slotsDesc, upgradingDesc, costDesc}
+
+// Describe tells which metrics there are.
+func (c *collector) Describe(to chan<- *prometheus.Desc) {
+	for _, desc := range descs {
+		to <- desc
+	}
+}
+
+// A teller sends metrics; of a book, with its name as the first label.
+type teller struct {
+	to     chan<- prometheus.Metric
+	labels []string
+}
+
+func (t teller) tell(desc *prometheus.Desc, kind prometheus.ValueType, value float64, labels ...string) {
+	t.to <- prometheus.MustNewConstMetric(desc, kind, value, append(t.labels[:len(t.labels):len(t.labels)], labels...)...)
+}
+
+func (t teller) gauge(desc *prometheus.Desc, value float64, labels ...string) {
+	t.tell(desc, prometheus.GaugeValue, value, labels...)
+}
+
+func (t teller) counter(desc *prometheus.Desc, value uint64, labels ...string) {
+	t.tell(desc, prometheus.CounterValue, float64(value), labels...)
+}
+
+// Collect makes the metrics.
+func (c *collector) Collect(to chan<- prometheus.Metric) {
+	c.group(teller{to, nil})
+	names := make(chan string)
+	var all sync.WaitGroup
+	for i := 0; i < surveyors; i++ {
+		all.Add(1)
+		go func() {
+			defer all.Done()
+			for name := range names {
+				c.book(teller{to, []string{name}}, name)
+			}
+		}()
+	}
+	for _, name := range c.Watcher.Names() {
+		names <- name
+	}
+	close(names)
+	all.Wait()
+}
+
+// surveyors is how many books are surveyed at once.
+const surveyors = 4
+
+func (c *collector) book(t teller, name string) {
+	report, err := c.Watcher.Report(name)
+	if err != nil {
+		return // (the other books are still told)
+	}
+	counts(t, c.Watcher.Counts(name), c.Refusal)
+	stand(t, report)
+	t.gauge(costDesc, c.Watcher.Cost(name).Seconds())
+}
+
+func (c *collector) group(t teller) {
+	status := c.Status()
+	t.gauge(leaderDesc, float64(status.Leader))
+	t.gauge(isLeaderDesc, one(status.Leader != 0 && status.Leader == status.ID))
+	t.gauge(membersDesc, float64(len(status.Members)))
+	t.gauge(termDesc, float64(status.Term))
+	t.gauge(commitDesc, float64(status.Commit))
+	t.gauge(appliedDesc, float64(status.Applied))
+	t.gauge(snapDesc, float64(status.Snapshot))
+	t.gauge(firstDesc, float64(status.First))
+	t.gauge(booksDesc, float64(len(c.Watcher.Names())))
+	if newest, ok := newestIn(c.Folder); ok {
+		t.gauge(ageDesc, time.Since(newest).Seconds())
+	}
+}
+
+// newestIn is when the newest file of a folder was written.
+func newestIn(folder string) (newest time.Time, ok bool) {
+	files, err := os.ReadDir(folder)
+	if folder == "" || err != nil {
+		return
+	}
+	for _, file := range files {
+		info, err := file.Info()
+		if err == nil && info.Mode().IsRegular() && info.ModTime().After(newest) {
+			newest, ok = info.ModTime(), true
+		}
+	}
+	return
+}
+
+func one(is bool) float64 {
+	if is {
+		return 1
+	}
+	return 0
+}
+
+func counts(t teller, counts survey.Counts, word func(uint8) string) {
+	for cause, count := range counts.Commands {
+		t.counter(commandsDesc, count, cause.Command, cause.Reply)
+	}
+	for refusal, count := range counts.Refusals {
+		t.counter(refusalsDesc, count, number(uint32(refusal)), word(refusal))
+	}
+	t.counter(expiredDesc, counts.Expired)
+	t.counter(missedDesc, counts.Missed)
+}
+
+func stand(t teller, r *survey.Report) {
+	t.counter(entriesDesc, r.N)
+	t.counter(clockDesc, uint64(r.Clock))
+	t.gauge(stripesDesc, float64(r.Stripes.Whole), "whole", "3")
+	for margin, count := range r.Stripes.AtRisk {
+		t.gauge(stripesDesc, float64(count), "risk", strconv.Itoa(margin))
+	}
+	t.gauge(stripesDesc, float64(r.Stripes.Unavailable), "unavailable", "-")
+	t.gauge(stripesDesc, float64(r.Stripes.Lost), "lost", "-")
+	t.gauge(missingDesc, float64(r.Stripes.Missing))
+	t.gauge(homelessDesc, float64(r.Stripes.Homeless))
+	t.gauge(workDesc, float64(r.Work.Leased), "leased")
+	t.gauge(workDesc, float64(r.Work.Open), "open")
+	t.gauge(workDesc, float64(r.Work.NoNode), "no_node")
+	t.gauge(workDesc, float64(r.Work.Unrecoverable), "unrecoverable")
+	t.gauge(upgradingDesc, one(r.Upgrading != nil))
+	leases(t, r.Leases)
+	nodes(t, r.Nodes)
+}
+
+func leases(t teller, leases []survey.Lease) {
+	ages, oldest := [3]int{}, 0.0
+	for _, lease := range leases {
+		if lease.Ticks < 3 {
+			ages[lease.Ticks]++
+		}
+		if age := time.Since(lease.Since).Seconds(); age > oldest {
+			oldest = age
+		}
+	}
+	for ticks, count := range ages {
+		t.gauge(leasesDesc, float64(count), strconv.Itoa(ticks))
+	}
+	t.gauge(oldestDesc, oldest)
+}
+
+type domain struct {
+	kind   string
+	number uint8
+}
+
+func nodes(t teller, nodes []survey.Node) {
+	modes := map[string]int{"active": 0, "draining": 0, "gone": 0}
+	seats, slots := map[domain]int{}, map[domain]int{}
+	down, online := 0, 0
+	for _, node := range nodes {
+		modes[node.Mode]++
+		if node.Down {
+			down++
+		}
+		if node.Online {
+			online++
+		}
+		for _, in := range []domain{{"fault", node.Fault}, {"upgrade", node.Upgrade}} {
+			seats[in] += int(node.Load)
+			slots[in] += int(node.Slots)
+		}
+	}
+	for mode, count := range modes {
+		t.gauge(nodesDesc, float64(count), mode)
+	}
+	t.gauge(downDesc, float64(down))
+	t.gauge(onlineDesc, float64(online))
+	for in, count := range slots {
+		t.gauge(seatsDesc, float64(seats[in]), in.kind, number(uint32(in.number)))
+		t.gauge(slotsDesc, float64(count), in.kind, number(uint32(in.number)))
+	}
+}

@@ -1,0 +1,404 @@
+package metrics
+
+import (
+	"fmt"
+	"io"
+	"net/http"
+	"net/http/httptest"
+	"os"
+	"path/filepath"
+	"strings"
+	"testing"
+	"time"
+
+	"github.com/prometheus/client_golang/prometheus/testutil"
+	dto "github.com/prometheus/client_model/go"
+
+	"lrcman/service/internal/engine"
+	"lrcman/service/internal/state"
+	"lrcman/service/internal/survey"
+	"lrcman/service/internal/survey/recorded"
+)
+
+var states = []string{"quiet", "rack", "upgrade", "harm", "most"}
+
+func books(t testing.TB) recorded.Books {
+	t.Helper()
+	all := recorded.Books{}
+	for _, name := range states {
+		b, err := recorded.Load(name)
+		if err != nil {
+			t.Fatal(err)
+		}
+		all[name] = b
+	}
+	return all
+}
+
+func status() engine.Status {
+	return engine.Status{ID: 2, Leader: 1, Term: 7, Commit: 900, Applied: 890, Snapshot: 800, First: 700,
+		Members: []engine.Member{{ID: 1}, {ID: 2}, {ID: 3}}}
+}
+
+func metricsOf(from survey.Books, folder string) (*Metrics, *survey.Watcher) {
+	watcher := survey.NewWatcher(from, time.Now)
+	return New(Sources{Watcher: watcher, Status: status, Folder: folder, Version: "0.1",
+		Refusal: func(refusal uint8) string { return fmt.Sprintf("refusal %d", refusal) }}), watcher
+}
+
+// values are the samples of the metrics, as text: NAME{LABEL="VALUE",..}.
+func values(t testing.TB, m *Metrics) map[string]float64 {
+	t.Helper()
+	families, err := m.Registry().Gather()
+	if err != nil {
+		t.Fatal(err)
+	}
+	found := map[string]float64{}
+	for _, family := range families {
+		for _, metric := range family.Metric {
+			found[family.GetName()+labelsOf(metric)] = valueOf(metric)
+		}
+	}
+	return found
+}
+
+func labelsOf(metric *dto.Metric) string {
+	words := []string{}
+	for _, pair := range metric.Label {
+		words = append(words, fmt.Sprintf("%s=%q", pair.GetName(), pair.GetValue()))
+	}
+	if len(words) == 0 {
+		return ""
+	}
+	return "{" + strings.Join(words, ",") + "}"
+}
+
+func valueOf(metric *dto.Metric) float64 {
+	switch {
+	case metric.Gauge != nil:
+		return metric.Gauge.GetValue()
+	case metric.Counter != nil:
+		return metric.Counter.GetValue()
+	}
+	return float64(metric.Histogram.GetSampleCount())
+}
+
+func TestBooksAreCountedAsTheModelCountsThem(t *testing.T) {
+	all := books(t)
+	none := recorded.Books{}
+	m, watcher := metricsOf(none, "")
+	watcher.Step()
+	for name, b := range all {
+		none[name] = b
+	}
+	watcher.Step()
+	got := values(t, m)
+	for name, b := range all {
+		want := map[string]int{}
+		for label, row := range map[string]string{`level="whole",margin="3"`: "whole", `level="risk",margin="2"`: "at_risk_margin_2",
+			`level="risk",margin="1"`: "at_risk_margin_1", `level="risk",margin="0"`: "at_risk_margin_0",
+			`level="unavailable",margin="-"`: "unavailable", `level="lost",margin="-"`: "lost"} {
+			want[fmt.Sprintf(`lrcmand_stripes{book=%q,%s}`, name, label)] = b.Value(row)
+		}
+		for _, standing := range []string{"leased", "open", "no_node", "unrecoverable"} {
+			want[fmt.Sprintf(`lrcmand_work_fragments{book=%q,standing=%q}`, name, standing)] = b.Standing(standing)
+		}
+		for _, mode := range []string{"active", "draining", "gone"} {
+			want[fmt.Sprintf(`lrcmand_nodes{book=%q,mode=%q}`, name, mode)] = b.Value("nodes_" + mode)
+		}
+		for metric, row := range map[string]string{"nodes_down": "nodes_down", "nodes_online": "nodes_online", "ticks_total": "clock",
+			"entries_total": "entries", "missing_fragments": "missing_fragments", "homeless_fragments": "homeless_fragments"} {
+			want[fmt.Sprintf(`lrcmand_%s{book=%q}`, metric, name)] = b.Value(row)
+		}
+		for cause, count := range b.Counts {
+			command, reply, _ := strings.Cut(cause, " ")
+			want[fmt.Sprintf(`lrcmand_commands_total{book=%q,command=%q,reply=%q}`, name, command, reply)] = int(count)
+		}
+		for sample, value := range want {
+			if got[sample] != float64(value) {
+				t.Errorf("%s is %v, and the model has %d", sample, got[sample], value)
+			}
+		}
+		sumsOf(t, got, name, b)
+	}
+}
+
+// sumsOf compares sums over labels with the model.
+func sumsOf(t *testing.T, got map[string]float64, name string, b *recorded.Book) {
+	sum := func(metric string) (total int) {
+		for sample, value := range got {
+			if strings.HasPrefix(sample, "lrcmand_"+metric+"{") && strings.Contains(sample, fmt.Sprintf("book=%q", name)) {
+				total += int(value)
+			}
+		}
+		return
+	}
+	for _, kind := range []string{"fault", "upgrade"} {
+		for metric, row := range map[string]string{"domain_held_seats": "held_seats", "domain_slots": "slots"} {
+			found := 0
+			for sample, value := range got {
+				if strings.HasPrefix(sample, fmt.Sprintf("lrcmand_%s{book=%q,", metric, name)) && strings.Contains(sample, fmt.Sprintf("kind=%q", kind)) {
+					found += int(value)
+				}
+			}
+			if found != b.Value(row) {
+				t.Errorf("%s: %s of all %s domains is %d, and the model has %d", name, metric, kind, found, b.Value(row))
+			}
+		}
+	}
+	if leases := sum("leases"); leases != b.Value("leases") {
+		t.Errorf("%s: %d leases, and the model has %d", name, leases, b.Value("leases"))
+	}
+	refused := 0
+	for cause, count := range b.Counts {
+		if strings.HasSuffix(cause, " refused") {
+			refused += int(count)
+		}
+	}
+	if refusals := sum("refusals_total"); refusals != refused {
+		t.Errorf("%s: %d refusals, and the model has %d", name, refusals, refused)
+	}
+}
+
+func TestTheGroupIsTold(t *testing.T) {
+	folder := t.TempDir()
+	file := filepath.Join(folder, "one.snap")
+	if err := os.WriteFile(file, nil, 0o600); err != nil {
+		t.Fatal(err)
+	}
+	hour := time.Now().Add(-time.Hour)
+	if err := os.Chtimes(file, hour, hour); err != nil {
+		t.Fatal(err)
+	}
+	m, _ := metricsOf(books(t), folder)
+	got := values(t, m)
+	want := map[string]float64{"lrcmand_raft_leader": 1, "lrcmand_raft_is_leader": 0, "lrcmand_raft_term": 7, "lrcmand_raft_members": 3,
+		"lrcmand_raft_committed_index": 900, "lrcmand_raft_applied_index": 890, "lrcmand_raft_snapshot_index": 800,
+		"lrcmand_raft_first_index": 700, "lrcmand_books": float64(len(states))}
+	for sample, value := range want {
+		if found, ok := got[sample]; !ok || found != value {
+			t.Errorf("%s is %v, and should be %v", sample, found, value)
+		}
+	}
+	if age := got["lrcmand_snapshot_age_seconds"]; age < 3600 || age > 3660 {
+		t.Errorf("the snapshot is %v seconds old, and was written an hour ago", age)
+	}
+	m, _ = metricsOf(books(t), t.TempDir())
+	if _, ok := values(t, m)["lrcmand_snapshot_age_seconds"]; ok {
+		t.Error("an age without a snapshot")
+	}
+}
+
+func TestNamesAreThoseOfPrometheus(t *testing.T) {
+	m, watcher := metricsOf(books(t), "")
+	watcher.Step()
+	m.Wrap(http.NotFoundHandler()).ServeHTTP(httptest.NewRecorder(), httptest.NewRequest("GET", "/nowhere", nil))
+	problems, err := testutil.GatherAndLint(m.Registry())
+	if err != nil {
+		t.Fatal(err)
+	}
+	for _, problem := range problems {
+		t.Errorf("%s: %s", problem.Metric, problem.Text)
+	}
+}
+
+// No label has a value of a stripe, a node or a worker.
+func TestLabelsAreFew(t *testing.T) {
+	all := books(t)
+	m, watcher := metricsOf(all, "")
+	watcher.Step()
+	allowed := map[string]bool{"book": true, "level": true, "margin": true, "standing": true, "mode": true, "kind": true, "domain": true,
+		"age_ticks": true, "command": true, "reply": true, "refusal": true, "name": true, "route": true, "status": true, "version": true,
+		"interface": true, "rules": true}
+	families, err := m.Registry().Gather()
+	if err != nil {
+		t.Fatal(err)
+	}
+	for _, family := range families {
+		if !strings.HasPrefix(family.GetName(), "lrcmand_") {
+			continue
+		}
+		for _, metric := range family.Metric {
+			for _, pair := range metric.Label {
+				if !allowed[pair.GetName()] || strings.Contains(pair.GetValue(), "script>") {
+					t.Errorf("%s has label %s=%q", family.GetName(), pair.GetName(), pair.GetValue())
+				}
+			}
+		}
+	}
+}
+
+func TestRequestsAreCountedByRouteAndStatus(t *testing.T) {
+	m, _ := metricsOf(recorded.Books{}, "")
+	answers := map[string]int{"/books/p0/call": 200, "/books/p1/call": 404, "/books/p0/stripes/17": 200, "/books/p0/stripes/18": 404,
+		"/members/4": 409, "/status": 401, "/../etc": 400, "/books/<script>/log": 403, "/books/p0/log": 200}
+	handler := m.Wrap(http.HandlerFunc(func(w http.ResponseWriter, r *http.Request) {
+		if status := answers[r.URL.Path]; status != 200 {
+			w.WriteHeader(status)
+		}
+		io.WriteString(w, "{}\n")
+	}))
+	for path := range answers {
+		r := httptest.NewRequest("POST", "/", nil)
+		r.URL.Path = path
+		if path == "/books/p0/log" {
+			r.URL.RawQuery = "follow=1"
+		}
+		handler.ServeHTTP(httptest.NewRecorder(), r)
+	}
+	got := values(t, m)
+	want := map[string]float64{
+		`lrcmand_http_requests_total{route="/books/{book}/call",status="200"}`:             1,
+		`lrcmand_http_requests_total{route="/books/{book}/call",status="404"}`:             1,
+		`lrcmand_http_requests_total{route="/books/{book}/stripes/{stripe}",status="200"}`: 1,
+		`lrcmand_http_requests_total{route="/books/{book}/stripes/{stripe}",status="404"}`: 1,
+		`lrcmand_http_requests_total{route="/members/{id}",status="409"}`:                  1,
+		`lrcmand_http_requests_total{route="/status",status="401"}`:                        1,
+		`lrcmand_http_requests_total{route="other",status="400"}`:                          1,
+		`lrcmand_http_requests_total{route="/books/{book}/log",status="403"}`:              1,
+		`lrcmand_http_requests_total{route="/books/{book}/log",status="200"}`:              1,
+		`lrcmand_call_duration_seconds{book="p0"}`:                                         1,
+		`lrcmand_http_request_duration_seconds{route="/books/{book}/call"}`:                2,
+		`lrcmand_http_request_duration_seconds{route="/books/{book}/log"}`:                 1, // (the stream is left out)
+	}
+	for sample, value := range want {
+		if got[sample] != value {
+			t.Errorf("%s is %v, and should be %v", sample, got[sample], value)
+		}
+	}
+	for sample := range got {
+		if strings.Contains(sample, "p1") || strings.Contains(sample, "script") {
+			t.Errorf("a name that is no book's became a label: %s", sample)
+		}
+	}
+}
+
+func TestAHandlerThatPanicsIsCounted(t *testing.T) {
+	m, _ := metricsOf(recorded.Books{}, "")
+	func() {
+		defer func() {
+			if recover() == nil {
+				t.Error("the panic is lost")
+			}
+		}()
+		m.Wrap(http.HandlerFunc(func(http.ResponseWriter, *http.Request) { panic("no") })).ServeHTTP(httptest.NewRecorder(), httptest.NewRequest("GET", "/books", nil))
+	}()
+	m.Wrap(http.HandlerFunc(func(http.ResponseWriter, *http.Request) {})).ServeHTTP(httptest.NewRecorder(), httptest.NewRequest("GET", "/books", nil))
+	got := values(t, m)
+	if got[`lrcmand_http_requests_total{route="/books",status="500"}`] != 1 || got[`lrcmand_http_requests_total{route="/books",status="200"}`] != 1 {
+		t.Errorf("%v", got)
+	}
+}
+
+// SERVICE.md describes each metric and each alert, and no others.
+func TestThePageOfTheServiceDescribesAll(t *testing.T) {
+	text, err := os.ReadFile("../../../docs/SERVICE.md")
+	if err != nil {
+		t.Fatal(err)
+	}
+	_, part, _ := strings.Cut(string(text), "\n## Metrics\n")
+	tables, part, _ := strings.Cut(part, "\n## Alerts\n")
+	alertTable, _, _ := strings.Cut(part, "\n## ")
+	listed := func(text, first string) map[string]bool {
+		found := map[string]bool{}
+		for _, line := range strings.Split(text, "\n") {
+			if cells := strings.Split(line, "|"); len(cells) > 2 && !strings.HasPrefix(strings.TrimSpace(cells[1]), first) {
+				for i, word := range strings.Split(cells[1], "`") {
+					if i%2 == 1 {
+						found[word] = true
+					}
+				}
+			}
+		}
+		return found
+	}
+	told := map[string]bool{}
+	for metric := range labelsByMetric(t) {
+		if strings.HasPrefix(metric, "lrcmand_") {
+			told[strings.TrimPrefix(metric, "lrcmand_")] = true
+		}
+	}
+	same(t, "metric", told, listed(tables, "Metric"))
+	named := map[string]bool{}
+	for _, rule := range alerts(t) {
+		named[strings.TrimPrefix(rule.Alert, "Lrcmand")] = true
+	}
+	same(t, "alert", named, listed(alertTable, "Alert"))
+}
+
+func same(t *testing.T, what string, told, listed map[string]bool) {
+	for name := range told {
+		if !listed[name] {
+			t.Errorf("SERVICE.md does not describe the %s %s", what, name)
+		}
+	}
+	for name := range listed {
+		if !told[name] {
+			t.Errorf("SERVICE.md describes the %s %s, which there is not", what, name)
+		}
+	}
+}
+
+func TestAnswersAreStillSentBitByBit(t *testing.T) {
+	m, _ := metricsOf(recorded.Books{}, "")
+	recorder := httptest.NewRecorder()
+	m.Wrap(http.HandlerFunc(func(w http.ResponseWriter, r *http.Request) {
+		w.(http.Flusher).Flush()
+	})).ServeHTTP(recorder, httptest.NewRequest("GET", "/events", nil))
+	if !recorder.Flushed {
+		t.Error("nothing was flushed")
+	}
+}
+
+func TestTheHandlerAnswersInTextForm(t *testing.T) {
+	m, _ := metricsOf(books(t), "")
+	recorder := httptest.NewRecorder()
+	m.Handler().ServeHTTP(recorder, httptest.NewRequest("GET", "/metrics", nil))
+	text := recorder.Body.String()
+	if recorder.Code != 200 || !strings.Contains(text, "# TYPE lrcmand_stripes gauge\n") || !strings.Contains(text, `lrcmand_build_info{`) {
+		t.Errorf("status %d, %.300s", recorder.Code, text)
+	}
+}
+
+// scrape makes 64 of the largest books, and asks for metrics again and again.
+func scrape(b *testing.B, between func(survey.Books) *Metrics) {
+	if !recorded.HasRules() {
+		b.Skip("the library is a stand-in without rules")
+	}
+	s := state.New()
+	for i := uint64(1); i <= 64; i++ {
+		if err := recorded.Largest(s, i, fmt.Sprintf("p%d", i)); err != nil {
+			b.Fatal(err)
+		}
+	}
+	all := survey.OfState(s)
+	between(all)
+	b.ResetTimer()
+	for i := 0; i < b.N; i++ {
+		recorder := httptest.NewRecorder()
+		between(all).Handler().ServeHTTP(recorder, httptest.NewRequest("GET", "/metrics", nil))
+		if recorder.Code != 200 {
+			b.Fatal(recorder.Code)
+		}
+	}
+}
+
+// No book has changed since the last scrape.
+func BenchmarkScrapeAtRest(b *testing.B) {
+	var m *Metrics
+	scrape(b, func(all survey.Books) *Metrics {
+		if m == nil {
+			m, _ = metricsOf(all, "")
+			values(b, m)
+		}
+		return m
+	})
+}
+
+// All books have changed since the last scrape.
+func BenchmarkScrapeAfterChanges(b *testing.B) {
+	scrape(b, func(all survey.Books) *Metrics {
+		m, _ := metricsOf(all, "")
+		return m
+	})
+}

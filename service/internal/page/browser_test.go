@@ -1,0 +1,310 @@
+package page
+
+import (
+	"context"
+	"fmt"
+	"net/http"
+	"net/http/httptest"
+	"os"
+	"os/exec"
+	"path/filepath"
+	"regexp"
+	"strconv"
+	"strings"
+	"sync/atomic"
+	"testing"
+	"time"
+
+	"lrcman/service/internal/engine"
+	"lrcman/service/internal/survey/recorded"
+)
+
+// browser runs Chromium without a window and returns what it printed. The test is left out where there is none.
+func browser(t *testing.T, arguments ...string) string {
+	t.Helper()
+	program, err := exec.LookPath("chromium")
+	if err != nil {
+		t.Skip("there is no chromium here, so the page is not looked at")
+	}
+	ctx, cancel := context.WithTimeout(context.Background(), 90*time.Second)
+	defer cancel()
+	arguments = append([]string{"--headless", "--no-sandbox", "--disable-gpu", "--disable-dev-shm-usage", "--hide-scrollbars",
+		"--user-data-dir=" + t.TempDir(), "--virtual-time-budget=4000"}, arguments...)
+	command := exec.CommandContext(ctx, program, arguments...)
+	said := &strings.Builder{}
+	command.Stderr = said
+	output, err := command.Output()
+	if err != nil {
+		t.Fatalf("chromium: %v: %s", err, said)
+	}
+	if strings.Contains(said.String(), "Content Security Policy") || strings.Contains(said.String(), "Uncaught") {
+		t.Errorf("chromium says %s", said)
+	}
+	return string(output)
+}
+
+// serveOnce sends one event in each stream, so that a browser comes to rest.
+func serveOnce(t *testing.T, p *Page, token string) *httptest.Server {
+	t.Helper()
+	mux := http.NewServeMux()
+	mux.HandleFunc("/", p.Page)
+	mux.HandleFunc("/events", func(w http.ResponseWriter, r *http.Request) {
+		if token != "" && r.Header.Get("Authorization") != "Bearer "+token {
+			refuse(w, http.StatusUnauthorized, "no token")
+			return
+		}
+		ctx, cancel := context.WithTimeout(r.Context(), 50*time.Millisecond)
+		defer cancel()
+		p.Events(w, r.WithContext(ctx))
+	})
+	server := httptest.NewServer(mux)
+	t.Cleanup(server.Close)
+	return server
+}
+
+// factsOf are the numbers that a page shows.
+func factsOf(dom string) map[string]string {
+	found := map[string]string{}
+	for _, match := range regexp.MustCompile(`<div[^>]*data-fact="([^"]*)"[^>]*><dt>[^<]*</dt><dd>([^<]*)</dd></div>`).FindAllStringSubmatch(dom, -1) {
+		found[match[1]] = match[2]
+	}
+	return found
+}
+
+func TestTheBrowserShowsTheNumbersOfTheModel(t *testing.T) {
+	books := load(t, states...)
+	server := serveOnce(t, pageOf(books), "")
+	for name, b := range books {
+		dom := browser(t, "--dump-dom", server.URL+"/?book="+name)
+		checkDOM(t, name, dom, b)
+	}
+}
+
+var words = map[string]string{"quiet": "Healthy", "rack": "Degraded", "upgrade": "Degraded", "harm": "Lost", "most": "Degraded"}
+
+func checkDOM(t *testing.T, name, dom string, b *recorded.Book) {
+	if !strings.Contains(dom, `<p id="word" aria-live="polite">`+words[name]+"</p>") {
+		t.Errorf("%s: the page does not say %s", name, words[name])
+	}
+	if isUpgrading := strings.Contains(dom, "Upgrade domain "+b.Status["upgrading"]+" is upgrading"); isUpgrading != (b.Status["upgrading"] != "none") {
+		t.Errorf("%s: the page tells of the upgrade of %s: %v", name, b.Status["upgrading"], isUpgrading)
+	}
+	facts := factsOf(dom)
+	want := map[string]int{"leased": b.Standing("leased"), "open": b.Standing("open"), "no node takes it": b.Standing("no_node"),
+		"too much is missing": b.Standing("unrecoverable")}
+	for fact, row := range map[string]string{"stripes": "stripes", "whole": "whole", "margin 2": "at_risk_margin_2", "margin 1": "at_risk_margin_1",
+		"margin 0": "at_risk_margin_0", "unavailable": "unavailable", "lost": "lost", "missing fragments": "missing_fragments",
+		"commands": "entries", "clock in ticks": "clock"} {
+		want[fact] = b.Value(row)
+	}
+	for fact, value := range want {
+		if facts[fact] != fmt.Sprint(value) {
+			t.Errorf("%s: the page shows %q for %s, and the model has %d", name, facts[fact], fact, value)
+		}
+	}
+	offline, atRisk := 0, 0
+	for _, node := range b.Nodes {
+		if !node.Online {
+			offline++
+		}
+		told := fmt.Sprintf("node %d: fault domain %d, upgrade domain %d, %s, ", node.Node, node.Fault, node.Upgrade, node.Mode)
+		if !strings.Contains(dom, told) || !strings.Contains(dom, fmt.Sprintf(`id="node-%d"`, node.Node)) {
+			t.Errorf("%s: the picture lacks %s", name, told)
+		}
+	}
+	for _, stripe := range b.Stripes {
+		if stripe.Level != "whole" {
+			atRisk++
+		}
+	}
+	// (one more stands in the legend twice: a node that is gone, and one that is not online)
+	if shown := len(regexp.MustCompile(`class="node [a-z]+ offline"`).FindAllString(dom, -1)) - 2; shown != offline {
+		t.Errorf("%s: %d nodes are shown as not online, and the model has %d", name, shown, offline)
+	}
+	if shown := strings.Count(dom, `class="level `); shown != atRisk {
+		t.Errorf("%s: %d stripes are shown at risk, and the model has %d", name, shown, atRisk)
+	}
+	if shown := strings.Count(dom, `class="age"`); shown != b.Value("leases") {
+		t.Errorf("%s: %d leases are shown, and the model has %d", name, shown, b.Value("leases"))
+	}
+	checkPicture(t, name, dom, len(b.Nodes))
+	last := b.Lines[len(b.Lines)-1]
+	if !strings.Contains(dom, "<code>"+last.Command+"</code>") || !strings.Contains(dom, "<code>"+last.Reply+"</code>") {
+		t.Errorf("%s: the last command is not shown: %+v", name, last)
+	}
+}
+
+// checkPicture looks whether each node stands inside the picture, and over no other one.
+func checkPicture(t *testing.T, name, dom string, nodes int) {
+	size := regexp.MustCompile(`<svg width="(\d+)" height="(\d+)" [^>]*role="img"`).FindStringSubmatch(dom)
+	if size == nil {
+		t.Errorf("%s: there is no picture", name)
+		return
+	}
+	number := func(text string) float64 {
+		value, err := strconv.ParseFloat(text, 64)
+		if err != nil {
+			t.Fatal(err)
+		}
+		return value
+	}
+	type place struct{ x, y float64 }
+	places := []place{}
+	for _, match := range regexp.MustCompile(`<g id="node-\d+"[^>]*><title>[^<]*</title><rect x="([\d.]+)" y="([\d.]+)"`).FindAllStringSubmatch(dom, -1) {
+		places = append(places, place{number(match[1]), number(match[2])})
+	}
+	if len(places) != nodes {
+		t.Errorf("%s: the picture has %d nodes of %d", name, len(places), nodes)
+	}
+	for i, a := range places {
+		if a.x < 0 || a.y < 0 || a.x+48 > number(size[1]) || a.y+34 > number(size[2]) {
+			t.Errorf("%s: a node stands at %v, outside of %v", name, a, size[1:])
+		}
+		for _, b := range places[:i] {
+			if a.x < b.x+48 && b.x < a.x+48 && a.y < b.y+34 && b.y < a.y+34 {
+				t.Errorf("%s: nodes at %v and %v stand over each other", name, a, b)
+			}
+		}
+	}
+}
+
+func TestSeveralNodesOfADomainStandSideBySide(t *testing.T) {
+	for name, upgrades := range map[string]uint8{"one upgrade domain": 1, "two": 2, "three": 3} {
+		one := load(t, "quiet")["quiet"]
+		for i := range one.Nodes {
+			one.Nodes[i].Upgrade %= upgrades
+		}
+		dom := browser(t, "--window-size=1280,900", "--dump-dom", serveOnce(t, pageOf(recorded.Books{"p0": one}), "").URL+"/")
+		checkPicture(t, name, dom, len(one.Nodes))
+		if !strings.Contains(dom, "Columns are fault domains") {
+			t.Errorf("%s: the nodes stand in no grid", name)
+		}
+	}
+}
+
+func TestNamesFromOutsideStayText(t *testing.T) {
+	const evil = `<img src=x onerror=alert(1)><script>document.title="owned"</script>`
+	one := load(t, "rack")["rack"]
+	one.Leases[0].Worker = evil
+	server := serveOnce(t, pageOf(recorded.Books{evil: one}), "")
+	dom := browser(t, "--dump-dom", server.URL+"/")
+	if strings.Contains(dom, "<img") || strings.Count(dom, "<script>") != 1 || strings.Contains(dom, "<title>owned") {
+		t.Error("a name became markup")
+	}
+	if strings.Count(dom, "&lt;img src=x onerror=alert(1)&gt;") < 3 { // the book in the list and in the title, and the worker
+		t.Error("the names are not shown")
+	}
+}
+
+func TestAPageWithoutContactOrLeaderSaysSo(t *testing.T) {
+	p := pageOf(load(t, "quiet"))
+	p.Status = func() engine.Status { return engine.Status{ID: 2, Term: 8} }
+	once := serveOnce(t, p, "").Config.Handler
+	var asked int32
+	server := httptest.NewServer(http.HandlerFunc(func(w http.ResponseWriter, r *http.Request) {
+		if r.URL.Path == "/events" && atomic.AddInt32(&asked, 1) > 1 {
+			refuse(w, http.StatusServiceUnavailable, "this member has <ended>")
+			return
+		}
+		once.ServeHTTP(w, r)
+	}))
+	defer server.Close()
+	dom := browser(t, "--dump-dom", server.URL+"/")
+	if !strings.Contains(dom, `<p id="word" aria-live="polite">No leader</p>`) {
+		t.Error("the page does not say that there is no leader")
+	}
+	if !strings.Contains(dom, `<body class="stale">`) || !strings.Contains(dom, "No contact, and what you see is old: this member has &lt;ended&gt;. Trying again.") {
+		t.Error("the page does not say that its stream ended")
+	}
+}
+
+func TestThePageShowsAnotherBookIfItsBookIsUnknown(t *testing.T) {
+	dom := browser(t, "--dump-dom", serveOnce(t, pageOf(load(t, "quiet")), "").URL+"/?book=p9")
+	if factsOf(dom)["stripes"] != "60" {
+		t.Error("nothing is shown")
+	}
+}
+
+func TestThePageAsksForAToken(t *testing.T) {
+	server := serveOnce(t, pageOf(load(t, "rack")), "abcdefghijklmnop")
+	dom := browser(t, "--dump-dom", server.URL+"/")
+	if !strings.Contains(dom, `<section id="ask" class="wide" aria-labelledby="ask-head">`) || strings.Contains(dom, `id="node-`) {
+		t.Error("the page does not ask for a token, or shows a store without one")
+	}
+}
+
+// servePhone serves the page, and at /phone/BOOK a frame that is as wide as a phone: a browser without a window is wider.
+func servePhone(t *testing.T, p *Page) *httptest.Server {
+	t.Helper()
+	mux := http.NewServeMux()
+	mux.HandleFunc("/events", p.Events)
+	mux.HandleFunc("/phone/", func(w http.ResponseWriter, r *http.Request) {
+		fmt.Fprintf(w, `<!doctype html><meta name="color-scheme" content="light dark"><body style="margin:0">`+
+			`<iframe src="/?book=%s" style="width:390px;height:2600px;border:0"></iframe><p></p><script>setTimeout(() => document.querySelector("p").`+
+			`textContent = "as wide as " + document.querySelector("iframe").contentDocument.documentElement.scrollWidth, 2500)</script>`,
+			strings.TrimPrefix(r.URL.Path, "/phone/"))
+	})
+	mux.HandleFunc("/", func(w http.ResponseWriter, r *http.Request) {
+		p.Page(framed{w}, r)
+	})
+	server := httptest.NewServer(mux)
+	t.Cleanup(server.Close)
+	return server
+}
+
+// framed lets a page stand in a frame of the same server.
+type framed struct{ http.ResponseWriter }
+
+func (f framed) Write(text []byte) (int, error) {
+	policy := f.Header().Get("Content-Security-Policy")
+	f.Header().Set("Content-Security-Policy", strings.Replace(policy, "frame-ancestors 'none'", "frame-ancestors 'self'", 1))
+	return f.ResponseWriter.Write(text)
+}
+
+func TestThePageIsNoWiderThanAPhone(t *testing.T) {
+	server := servePhone(t, pageOf(load(t, states...)))
+	for _, name := range states {
+		if dom := browser(t, "--window-size=800,2700", "--dump-dom", server.URL+"/phone/"+name); !strings.Contains(dom, "<p>as wide as 390</p>") {
+			t.Errorf("%s: %s", name, dom[len(dom)-200:])
+		}
+	}
+}
+
+// The pictures are kept where LRCMAND_PICTURES names a folder, to be looked at; LRCMAND_PICTURE names one of them.
+func TestPictures(t *testing.T) {
+	folder := os.Getenv("LRCMAND_PICTURES")
+	only := os.Getenv("LRCMAND_PICTURE")
+	if folder == "" {
+		t.Skip("LRCMAND_PICTURES names no folder for pictures")
+	}
+	books := load(t, states...)
+	for i, lease := range books["rack"].Leases {
+		books["rack"].Leases[i].Worker = strings.ReplaceAll(lease.Worker, "<script>alert(1)</script>", "repair-2.rack-a")
+	}
+	books["rack"].Show(61)
+	p := pageOf(books)
+	books["rack"].Show(len(books["rack"].Lines))
+	p.Watcher.Step()
+	server := servePhone(t, p)
+	dark := "--blink-settings=preferredColorScheme=0"
+	for _, picture := range []struct {
+		name, path, size string
+		more             []string
+	}{
+		{"quiet", "/?book=quiet", "1280,1100", nil},
+		{"rack", "/?book=rack", "1280,1500", nil},
+		{"upgrade", "/?book=upgrade", "1280,1500", nil},
+		{"harm", "/?book=harm", "1280,1200", nil},
+		{"most", "/?book=most", "1800,1500", nil},
+		{"phone", "/phone/rack", "500,2600", nil},
+		{"dark", "/?book=rack", "1280,1500", []string{dark}},
+		{"phone-dark", "/phone/upgrade", "500,2600", []string{dark}},
+	} {
+		if only != "" && only != picture.name {
+			continue
+		}
+		arguments := append(picture.more, "--window-size="+picture.size, "--screenshot="+filepath.Join(folder, picture.name+".png"),
+			server.URL+picture.path)
+		browser(t, arguments...)
+	}
+}

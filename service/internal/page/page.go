@@ -1,0 +1,299 @@
+// Package page has what people look at: one page, and the events that it shows.
+//
+// The page is a file without requests to elsewhere. Events are server-sent: a JSON object when something has changed, at most
+// one each second.
+package page
+
+import (
+	"bytes"
+	"crypto/sha256"
+	_ "embed" // for the page
+	"encoding/base64"
+	"encoding/json"
+	"errors"
+	"fmt"
+	"net/http"
+	"sort"
+	"strconv"
+	"sync"
+	"time"
+
+	"lrcman/service/internal/engine"
+	"lrcman/service/internal/state"
+	"lrcman/service/internal/survey"
+)
+
+//go:embed page.html
+var page []byte
+
+// What an event has at most.
+const (
+	mostRows    = 200 // of stripes at risk, and of leases
+	mostStreams = 64
+)
+
+// How often an event is made, and a line sent where none was.
+const (
+	each = time.Second
+	beat = 15 * time.Second
+)
+
+// Sources are what events are made of.
+type Sources struct {
+	Watcher *survey.Watcher
+	Status  func() engine.Status
+	Done    <-chan struct{} // closed when streams are to end
+}
+
+// A Page is what people look at.
+type Page struct {
+	Sources
+	streams chan struct{}
+	mu      sync.Mutex
+	kept    map[string]*kept
+}
+
+// kept is the last event of a book, which all its streams share.
+type kept struct {
+	mu   sync.Mutex
+	made time.Time
+	text []byte
+}
+
+// New makes a page.
+func New(from Sources) *Page {
+	return &Page{Sources: from, streams: make(chan struct{}, mostStreams), kept: map[string]*kept{}}
+}
+
+// policy lets the page load nothing but what stands in it, and ask nobody but this server.
+var policy = fmt.Sprintf("default-src 'none'; script-src '%s'; style-src '%s'; connect-src 'self'; img-src data:; base-uri 'none'; "+
+	"form-action 'none'; frame-ancestors 'none'", sumOf("script"), sumOf("style"))
+
+// sumOf is the checksum of what stands in an element of the page.
+func sumOf(element string) string {
+	_, text, _ := bytes.Cut(page, []byte("<"+element+">"))
+	text, _, _ = bytes.Cut(text, []byte("</"+element+">"))
+	sum := sha256.Sum256(text)
+	return "sha256-" + base64.StdEncoding.EncodeToString(sum[:])
+}
+
+// Page answers with the page. It tells nothing of the store, so it needs no role.
+func (p *Page) Page(w http.ResponseWriter, r *http.Request) {
+	if r.Method != http.MethodGet && r.Method != http.MethodHead {
+		w.Header().Set("Allow", "GET, HEAD")
+		refuse(w, http.StatusMethodNotAllowed, "the page can only be read")
+		return
+	}
+	head := w.Header()
+	head.Set("Content-Type", "text/html; charset=utf-8")
+	head.Set("Content-Security-Policy", policy)
+	head.Set("X-Content-Type-Options", "nosniff")
+	head.Set("Referrer-Policy", "no-referrer")
+	head.Set("Cache-Control", "no-cache")
+	head.Set("Content-Length", strconv.Itoa(len(page)))
+	if r.Method == http.MethodGet {
+		w.Write(page) // (the client may be gone)
+	}
+}
+
+func refuse(w http.ResponseWriter, status int, words string) {
+	text, err := json.Marshal(map[string]interface{}{"status": status, "error": words})
+	if err != nil {
+		text = nil
+	}
+	w.Header().Set("Content-Type", "application/json")
+	w.WriteHeader(status)
+	w.Write(append(text, '\n')) // (the client may be gone)
+}
+
+// A Member is how this member sees its group.
+type Member struct {
+	ID      uint64          `json:"id"`
+	Leader  uint64          `json:"leader"`
+	Term    uint64          `json:"term"`
+	Commit  uint64          `json:"commit"`
+	Applied uint64          `json:"applied"`
+	Members []engine.Member `json:"members"`
+}
+
+// An Event is what the page shows. Without a book only the first two fields are there.
+type Event struct {
+	Member Member   `json:"member"`
+	Books  []string `json:"books"`
+	*Shown
+}
+
+// Shown is what an event tells of a book.
+type Shown struct {
+	*survey.Report
+	Risks      []survey.Risk  `json:"risks"`
+	RisksMore  int            `json:"risks_more"`
+	Leases     []survey.Lease `json:"leases"`
+	LeasesMore int            `json:"leases_more"`
+	Rates      survey.Rates   `json:"rates"`
+	Last       []survey.Line  `json:"last"`
+}
+
+func (p *Page) event(name string) ([]byte, error) {
+	status := p.Status()
+	event := Event{Books: p.Watcher.Names(), Member: Member{status.ID, status.Leader, status.Term, status.Commit, status.Applied,
+		append([]engine.Member{}, status.Members...)}}
+	if name != "" {
+		report, err := p.Watcher.Report(name)
+		if err != nil {
+			return nil, err
+		}
+		event.Shown = p.shown(report)
+	}
+	return json.Marshal(event)
+}
+
+func (p *Page) shown(r *survey.Report) *Shown {
+	shown := &Shown{Report: r, Risks: r.Risks, Leases: oldest(r.Leases), Rates: p.Watcher.Rates(r.Book, r.Work), Last: p.Watcher.Last(r.Book)}
+	if more := len(r.Risks) - mostRows; more > 0 {
+		shown.Risks, shown.RisksMore = r.Risks[:mostRows], more
+	}
+	if more := len(r.Leases) - mostRows; more > 0 {
+		shown.Leases, shown.LeasesMore = shown.Leases[:mostRows], more
+	}
+	return shown
+}
+
+// text is the event of a book, made at most once in a while for all streams.
+func (p *Page) text(name string) ([]byte, error) {
+	p.mu.Lock()
+	k := p.kept[name]
+	if k == nil {
+		k = &kept{}
+	}
+	p.mu.Unlock()
+	k.mu.Lock()
+	defer k.mu.Unlock()
+	if k.text != nil && time.Since(k.made) < each/2 {
+		return k.text, nil
+	}
+	text, err := p.event(name)
+	if err != nil {
+		return nil, err
+	}
+	k.text, k.made = text, time.Now()
+	p.mu.Lock()
+	p.kept[name] = k // (only of a book that there is)
+	p.mu.Unlock()
+	return text, nil
+}
+
+// Events sends the events of a book until the client goes.
+func (p *Page) Events(w http.ResponseWriter, r *http.Request) {
+	name, err := p.bookOf(r)
+	if err != nil {
+		refuse(w, http.StatusBadRequest, err.Error())
+		return
+	}
+	flusher, ok := w.(http.Flusher)
+	if r.Method != http.MethodGet || !ok {
+		w.Header().Set("Allow", "GET")
+		refuse(w, http.StatusMethodNotAllowed, "events can only be read")
+		return
+	}
+	select {
+	case p.streams <- struct{}{}:
+		defer func() { <-p.streams }()
+	default:
+		refuse(w, http.StatusTooManyRequests, fmt.Sprintf("there are %d streams of events already", cap(p.streams)))
+		return
+	}
+	text, err := p.text(name)
+	if errors.Is(err, state.ErrNoBook) {
+		refuse(w, http.StatusNotFound, "there is no book "+name)
+		return
+	} else if err != nil {
+		refuse(w, http.StatusInternalServerError, err.Error())
+		return
+	}
+	w.Header().Set("Content-Type", "text/event-stream")
+	w.Header().Set("Cache-Control", "no-store")
+	w.Header().Set("X-Accel-Buffering", "no")
+	s := &stream{w: w, flusher: flusher}
+	if s.send(text) == nil {
+		p.follow(r, name, s)
+	}
+}
+
+// bookOf is the book that a request names, or else the first one; "" if there is none.
+func (p *Page) bookOf(r *http.Request) (string, error) {
+	for parameter, values := range r.URL.Query() {
+		if parameter != "book" || len(values) != 1 {
+			return "", fmt.Errorf("the parameter %q is unknown, or there twice", parameter)
+		}
+	}
+	if name := r.URL.Query().Get("book"); name != "" {
+		return name, nil
+	}
+	if names := p.Watcher.Names(); len(names) > 0 {
+		return names[0], nil
+	}
+	return "", nil
+}
+
+func (p *Page) follow(r *http.Request, name string, s *stream) {
+	ticker := time.NewTicker(each)
+	defer ticker.Stop()
+	for {
+		select {
+		case <-r.Context().Done():
+			return
+		case <-p.Done:
+			return
+		case <-ticker.C:
+		}
+		if name == "" { // the first book may have come
+			if names := p.Watcher.Names(); len(names) > 0 {
+				name = names[0]
+			}
+		}
+		text, err := p.text(name)
+		if err != nil || s.send(text) != nil {
+			return
+		}
+	}
+}
+
+// A stream is one client's events.
+type stream struct {
+	w       http.ResponseWriter
+	flusher http.Flusher
+	last    []byte // the event that was sent last
+	at      time.Time
+}
+
+// send sends an event if it is another one than the last. A client that heard nothing for a while gets a line that says nothing,
+// by which a broken connection is found.
+func (s *stream) send(text []byte) error {
+	now := time.Now()
+	var err error
+	switch {
+	case !bytes.Equal(text, s.last):
+		_, err = fmt.Fprintf(s.w, "data: {\"time\":%d,%s\n\n", now.UnixMilli(), text[1:])
+	case now.Sub(s.at) >= beat:
+		_, err = fmt.Fprint(s.w, ": here\n\n")
+	default:
+		return nil
+	}
+	s.last, s.at = text, now
+	s.flusher.Flush()
+	return err
+}
+
+// oldest are the leases in the order of their grants, the oldest first.
+func oldest(leases []survey.Lease) []survey.Lease {
+	sorted := append([]survey.Lease{}, leases...)
+	sort.SliceStable(sorted, func(i, j int) bool {
+		a, b := sorted[i], sorted[j]
+		if a.Ticks != b.Ticks {
+			return a.Ticks > b.Ticks
+		}
+		return a.Since.Before(b.Since)
+	})
+	return sorted
+}

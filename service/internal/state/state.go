@@ -1,0 +1,496 @@
+// Package state is what the members of a group keep alike: books by name, and beside each book the keys of the calls that it
+// answered and the workers who hold its leases.
+//
+// Apply changes it, entry by entry in the order of the log, and each member gets the same answers. Freeze and Restore write and
+// read a snapshot. No look changes anything.
+package state
+
+import (
+	"errors"
+	"fmt"
+	"sort"
+	"sync"
+
+	"lrcman/service/internal/book"
+)
+
+// The limits that are part of the replicated state: all members have to have the same.
+const (
+	MostBooks  = 1024
+	KeysOfBook = 4096  // the oldest is forgotten first, by count
+	ForgetAt   = 20000 // entries that a book has in memory when it forgets them
+	TailOfBook = 10000 // entries that stay beside it then, for those who read its log
+)
+
+// A Refusal is an answer of the service itself: nothing was changed.
+type Refusal uint8
+
+// The refusals of the service.
+const (
+	NoBook       Refusal = 1 + iota // there is no such book
+	BookExists                      // it was made over other nodes, or in another image
+	TooManyBooks                    // there are MostBooks
+	BadText                         // the nodes or the image are refused; Words has why
+	KeyReused                       // the key came with another call
+	Moved                           // the book does not stand where the caller saw it
+	OutOfRange                      // a number is out of its range
+	OtherRules                      // the member that proposed it has other rules
+)
+
+// An Answer is what an item was answered.
+type Answer struct {
+	Made    uint64 // the number of the entry in its book; 0: none was made
+	Opens   uint64 // of the book, how often it was begun over nodes or an image
+	Reply   book.Reply
+	Holder  string // of a refusal because another worker holds the lease: its name
+	IsAgain bool   // the key had been answered, or the book made
+	Refusal Refusal
+	Words   string // of a Refusal
+}
+
+// kept is the answer to a key, with what was asked.
+type kept struct {
+	asked  uint64
+	answer Answer
+}
+
+// A fragment of a stripe.
+type fragment struct {
+	stripe uint16
+	number uint8
+}
+
+// holding is the lease that a worker was granted.
+type holding struct {
+	worker string
+	epoch  uint32
+}
+
+// one is a book and what stands beside it. Its lock orders calls and looks.
+type one struct {
+	mu      sync.Mutex
+	book    *book.Book // nil once a restore has put another in its place
+	nodes   []byte
+	origin  []byte // the nodes and the image that it was made with, as a checksum
+	opens   uint64
+	index   uint64 // of the last entry of the log that named it
+	from    uint64 // of the image that it began in: the entries up to here are in it
+	keys    map[string]kept
+	order   []string     // the keys, the oldest first
+	tail    []book.Entry // the last entries before those that the book has
+	holders map[fragment]holding
+	grown   chan struct{} // closed at the next entry
+}
+
+// A State is the books of one member.
+type State struct {
+	entry sync.Mutex   // held while an entry is applied: no image is taken in the middle of one
+	mu    sync.RWMutex // of the map and the rules; each book has a lock of its own
+	books map[string]*one
+	rules uint32     // of the first entry: those of the group; 0 before it
+	write sync.Mutex // held while a snapshot is written, and by a restore
+}
+
+// New is the state before the first entry.
+func New() *State { return &State{books: map[string]*one{}} }
+
+// Apply makes the changes of one entry of the log, and returns a []Answer with one for each item. Entries come one after the
+// other, with rising indexes. An error means that this member can't go on: its books would not be those of the others.
+func (s *State) Apply(index uint64, payload []byte) (interface{}, error) {
+	answers, err := s.answers(index, payload)
+	if err != nil {
+		return nil, err
+	}
+	return answers, nil
+}
+
+func (s *State) answers(index uint64, payload []byte) ([]Answer, error) {
+	s.entry.Lock()
+	defer s.entry.Unlock()
+	rules, items, err := decode(payload)
+	if err != nil {
+		return nil, fmt.Errorf("entry %d of the log can't be applied: %w", index, err)
+	}
+	answers := make([]Answer, len(items))
+	if group := s.agree(rules); group != rules {
+		for i := range answers {
+			answers[i] = refuse(OtherRules, fmt.Sprintf("the member has rules %d, and the group has rules %d", rules, group))
+		}
+		return answers, nil
+	}
+	if rules != book.Rules() {
+		return nil, fmt.Errorf("entry %d of the log is of rules %d, and this library has rules %d: nothing of it was applied",
+			index, rules, book.Rules())
+	}
+	for i, item := range items {
+		if answers[i], err = s.apply(index, item); err != nil {
+			return nil, fmt.Errorf("entry %d of the log, book %s, %v: %w", index, item.Book, item.Command, err)
+		}
+	}
+	return answers, nil
+}
+
+// agree returns the rules of the group, which are those of its first entry.
+func (s *State) agree(rules uint32) uint32 {
+	s.mu.Lock()
+	defer s.mu.Unlock()
+	if s.rules == 0 {
+		s.rules = rules
+	}
+	return s.rules
+}
+
+func refuse(refusal Refusal, words string) Answer { return Answer{Refusal: refusal, Words: words} }
+
+func (s *State) find(name string) *one {
+	s.mu.RLock()
+	defer s.mu.RUnlock()
+	return s.books[name]
+}
+
+func (s *State) apply(index uint64, item *Item) (Answer, error) {
+	o := s.find(item.Book)
+	if item.Action == Create {
+		return s.create(index, o, item)
+	}
+	if o == nil {
+		return refuse(NoBook, "there is no book "+item.Book), nil
+	}
+	o.mu.Lock()
+	defer o.mu.Unlock()
+	if index <= o.from {
+		return Answer{}, nil // the image has it, which is newer than the index of its snapshot. Nobody waits for this
+	}
+	o.index = index
+	if item.Action == Reopen {
+		return o.reopen(item)
+	}
+	return o.answer(item)
+}
+
+// open makes a book of texts. A text that is refused is so on all members; an error is anything else.
+func open(nodes, image []byte) (*book.Book, *Answer, error) {
+	var b *book.Book
+	var err error
+	if len(image) == 0 {
+		b, err = book.Open(nodes)
+	} else {
+		b, err = book.OpenImage(nodes, image)
+	}
+	if book.IsOfText(err) {
+		refused := refuse(BadText, err.Error())
+		return nil, &refused, nil
+	}
+	return b, nil, err
+}
+
+func (s *State) create(index uint64, o *one, item *Item) (Answer, error) {
+	origin := checksum(item.Nodes, item.Image)
+	if o != nil && string(o.origin) == string(origin) {
+		return Answer{Opens: o.opens, IsAgain: true}, nil
+	} else if o != nil {
+		return refuse(BookExists, "the book was made with other nodes or another image"), nil
+	}
+	if len(s.books) >= MostBooks {
+		return refuse(TooManyBooks, fmt.Sprintf("there are %d books already", MostBooks)), nil
+	}
+	b, refused, err := open(item.Nodes, item.Image)
+	if refused != nil || err != nil {
+		return orNone(refused), err
+	}
+	made := &one{book: b, nodes: clone(item.Nodes), origin: origin, opens: 1, index: index, keys: map[string]kept{},
+		holders: map[fragment]holding{}, grown: make(chan struct{})}
+	answer := Answer{Made: b.Made(), Opens: 1}
+	s.mu.Lock()
+	s.books[item.Book] = made
+	s.mu.Unlock()
+	return answer, nil
+}
+
+func orNone(answer *Answer) Answer {
+	if answer == nil {
+		return Answer{}
+	}
+	return *answer
+}
+
+// reopen goes on over other nodes: a book that begins in the image of this one takes its place.
+func (o *one) reopen(item *Item) (Answer, error) {
+	if string(o.nodes) == string(item.Nodes) {
+		return Answer{Made: o.book.Made(), Opens: o.opens, IsAgain: true}, nil
+	}
+	image, err := o.book.Image()
+	if err != nil {
+		return Answer{}, err
+	}
+	b, refused, err := open(item.Nodes, image)
+	if refused != nil || err != nil {
+		return orNone(refused), err
+	}
+	if err := o.keepTail(); err != nil {
+		b.Close()
+		return Answer{}, err
+	}
+	o.book.Close()
+	o.book, o.nodes = b, clone(item.Nodes)
+	o.opens++
+	o.grow()
+	return Answer{Made: b.Made(), Opens: o.opens}, nil
+}
+
+// grow wakes those who wait for the book's next entry.
+func (o *one) grow() {
+	close(o.grown)
+	o.grown = make(chan struct{})
+}
+
+func (o *one) answer(item *Item) (Answer, error) {
+	asked := item.fingerprint()
+	if before, ok := o.keys[item.Key]; ok && item.Key != "" {
+		if before.asked != asked {
+			return refuse(KeyReused, "the key was used for another call"), nil
+		}
+		again := before.answer
+		again.IsAgain = true
+		return again, nil
+	}
+	answer, err := o.call(item)
+	if err == nil && answer.Refusal == 0 && item.Key != "" {
+		o.keep(item.Key, kept{asked, answer})
+	}
+	return answer, err
+}
+
+// keep notes the answer to a key, and forgets the oldest.
+func (o *one) keep(key string, answer kept) {
+	o.keys[key] = answer
+	o.order = append(o.order, key)
+	if len(o.order) > KeysOfBook {
+		delete(o.keys, o.order[0])
+		o.order = o.order[1:]
+	}
+}
+
+func (o *one) call(item *Item) (Answer, error) {
+	stand := Place{o.book.Made(), o.opens}
+	if item.At != nil && *item.At != stand {
+		return refuse(Moved, fmt.Sprintf("the book stands at %d, opened %d times", stand.Made, stand.Opens)), nil
+	}
+	if lease, holder, isOther := o.ofAnother(item); isOther {
+		return Answer{Opens: o.opens, Reply: book.OfNotHolder(lease.Holder), Holder: holder}, nil
+	}
+	entry, err := o.book.Call(item.Session, item.Command)
+	if book.IsOutOfRange(err) {
+		return refuse(OutOfRange, err.Error()), nil // alike on all members
+	} else if err != nil {
+		return Answer{}, err
+	}
+	if err := o.note(item, &entry.Reply); err != nil {
+		return Answer{}, err
+	}
+	made := o.book.Made()
+	o.grow()
+	return Answer{Made: made, Opens: o.opens, Reply: entry.Reply}, o.forget(made)
+}
+
+// ofAnother tells whether a report is about the live lease of another worker.
+func (o *one) ofAnother(item *Item) (lease book.LeaseRow, holder string, isOther bool) {
+	command := item.Command
+	if command.Kind != book.Done && command.Kind != book.Abandon {
+		return
+	}
+	held, isHeld := o.holders[fragment{command.Stripe, command.Fragment}]
+	if item.Worker == "" && !isHeld {
+		return
+	}
+	lease, err := o.book.Lease(command.Stripe, command.Fragment)
+	if err != nil || lease.Epoch != command.Epoch {
+		return // the rules refuse it
+	}
+	if isHeld && held.epoch == lease.Epoch {
+		holder = held.worker
+	}
+	return lease, holder, holder != item.Worker
+}
+
+// note keeps who holds which lease, after a call.
+func (o *one) note(item *Item, reply *book.Reply) error {
+	switch reply.Kind {
+	case book.Granted:
+		key := fragment{reply.Lease.Stripe, reply.Lease.Fragment}
+		delete(o.holders, key)
+		if item.Worker != "" {
+			o.holders[key] = holding{item.Worker, reply.Lease.Epoch}
+		}
+	case book.Ended:
+		delete(o.holders, fragment{item.Command.Stripe, item.Command.Fragment})
+	case book.Dropped:
+		for f := uint8(0); f < book.Fragments; f++ {
+			delete(o.holders, fragment{item.Command.Stripe, f})
+		}
+	case book.Ticked:
+		if reply.Ended > 0 {
+			return o.prune()
+		}
+	case book.Changed:
+		if item.Command.Kind == book.Fail {
+			return o.prune()
+		}
+	}
+	return nil
+}
+
+// prune forgets the holders of leases that have ended.
+func (o *one) prune() error {
+	if len(o.holders) == 0 {
+		return nil
+	}
+	rows, err := o.book.LeaseRows()
+	if err != nil {
+		return err
+	}
+	live := map[fragment]holding{}
+	for _, row := range rows {
+		key := fragment{row.Stripe, row.Fragment}
+		if held, ok := o.holders[key]; ok && held.epoch == row.Epoch {
+			live[key] = held
+		}
+	}
+	o.holders = live
+	return nil
+}
+
+// forget keeps the history short. It changes no reply, so members may differ in what they still have.
+func (o *one) forget(made uint64) error {
+	if made-o.book.Before() < ForgetAt {
+		return nil
+	}
+	if err := o.keepTail(); err != nil {
+		return err
+	}
+	return o.book.Forget()
+}
+
+// keepTail copies the last entries, which the book is about to lose.
+func (o *one) keepTail() error {
+	made, before := o.book.Made(), o.book.Before()
+	from := before
+	if made-before > TailOfBook {
+		from = made - TailOfBook
+	}
+	tail := make([]book.Entry, made-from)
+	if len(tail) > 0 {
+		if _, err := o.book.Entries(from, tail); err != nil {
+			return err
+		}
+	}
+	o.tail = append(o.tail, tail...)
+	if len(o.tail) > TailOfBook {
+		o.tail = append([]book.Entry(nil), o.tail[len(o.tail)-TailOfBook:]...)
+	}
+	return nil
+}
+
+// ErrNoBook says that a look names no book.
+var ErrNoBook = errors.New("there is no such book")
+
+// A Forgotten says that entries are no longer in memory: First is the first place from which they are.
+type Forgotten struct{ First uint64 }
+
+// Error names the first place.
+func (f *Forgotten) Error() string {
+	return fmt.Sprintf("the entries up to number %d are forgotten", f.First)
+}
+
+// A View is what a look sees: the book, which nobody else uses meanwhile, and where it stands.
+type View struct {
+	*book.Book
+	Stand Place
+	Nodes []byte
+	one   *one
+}
+
+// Entries returns entries behind a place, at most so many, and fewer at the seam of those that the book has; none only if there
+// are none. The error is a Forgotten if the first of them is not in memory.
+func (v *View) Entries(place uint64, most int) ([]book.Entry, error) {
+	before, tail := v.Before(), v.one.tail
+	first := before - uint64(len(tail))
+	if place < first {
+		return nil, &Forgotten{first}
+	}
+	if place < before {
+		rows := tail[place-first:]
+		if len(rows) > most {
+			rows = rows[:most]
+		}
+		return append([]book.Entry(nil), rows...), nil
+	}
+	rows := make([]book.Entry, most)
+	count, err := v.Book.Entries(place, rows)
+	return rows[:count], err
+}
+
+// Grown is closed at the next entry of the book, or when a snapshot takes its place.
+func (v *View) Grown() <-chan struct{} { return v.one.grown }
+
+// A Holder is a worker who was granted a lease by name.
+type Holder struct {
+	Stripe   uint16 `json:"stripe"`
+	Fragment uint8  `json:"fragment"`
+	Epoch    uint32 `json:"epoch"`
+	Worker   string `json:"worker"`
+}
+
+// Holders are the workers who hold live leases, by stripe and fragment.
+func (v *View) Holders() ([]Holder, error) {
+	rows, err := v.LeaseRows()
+	holders := []Holder{}
+	for _, row := range rows {
+		if held := v.one.holders[fragment{row.Stripe, row.Fragment}]; held.epoch == row.Epoch {
+			holders = append(holders, Holder{row.Stripe, row.Fragment, row.Epoch, held.worker})
+		}
+	}
+	return holders, err
+}
+
+// Look calls a function with a book.
+func (s *State) Look(name string, look func(*View) error) error {
+	for {
+		o := s.find(name)
+		if o == nil {
+			return ErrNoBook
+		}
+		if err, isDone := o.look(look); isDone {
+			return err
+		}
+		// (a restore has put another in its place meanwhile)
+	}
+}
+
+func (o *one) look(look func(*View) error) (err error, isDone bool) {
+	o.mu.Lock()
+	defer o.mu.Unlock()
+	if o.book == nil {
+		return nil, false
+	}
+	return look(&View{o.book, Place{o.book.Made(), o.opens}, o.nodes, o}), true
+}
+
+// Names are the books, in order.
+func (s *State) Names() []string {
+	s.mu.RLock()
+	defer s.mu.RUnlock()
+	names := make([]string, 0, len(s.books))
+	for name := range s.books {
+		names = append(names, name)
+	}
+	sort.Strings(names)
+	return names
+}
+
+// Rules are those of the group; 0 before its first entry.
+func (s *State) Rules() uint32 {
+	s.mu.RLock()
+	defer s.mu.RUnlock()
+	return s.rules
+}

@@ -1,0 +1,529 @@
+package state
+
+import (
+	"bytes"
+	"errors"
+	"fmt"
+	"reflect"
+	"strings"
+	"testing"
+
+	"lrcman/service/internal/book"
+	"lrcman/service/internal/engine"
+)
+
+// nodesOf is a text of nodes: node i is in fault domain i and in upgrade domain i modulo 10, as in the examples of docs/RULES.md.
+func nodesOf(count, slots int) []byte {
+	var text bytes.Buffer
+	for i := 0; i < count; i++ {
+		fmt.Fprintf(&text, "[[node]]\nnumber = %d\nfault = %d\nupgrade = %d\nslots = %d\n", i, i, i%10, slots)
+	}
+	return text.Bytes()
+}
+
+var twenty = nodesOf(20, 4)
+
+// A player applies items one by one, as a log does.
+type player struct {
+	t     *testing.T
+	s     *State
+	index uint64
+}
+
+func newPlayer(t *testing.T) *player {
+	p := &player{t: t, s: New()}
+	p.item(&Item{Action: Create, Book: "p0", Nodes: twenty})
+	return p
+}
+
+func (p *player) items(items ...*Item) []Answer {
+	p.t.Helper()
+	p.index++
+	answers, err := p.s.Apply(p.index, Encode(items))
+	if err != nil {
+		p.t.Fatal(err)
+	}
+	return answers.([]Answer)
+}
+
+func (p *player) item(item *Item) Answer {
+	p.t.Helper()
+	return p.items(item)[0]
+}
+
+func call(t *testing.T, line string) *Item {
+	t.Helper()
+	command, err := book.Parse(line)
+	if err != nil {
+		t.Fatal(err)
+	}
+	return &Item{Action: Call, Book: "p0", Session: 1, Command: command}
+}
+
+func (p *player) call(line string) Answer {
+	p.t.Helper()
+	return p.item(call(p.t, line))
+}
+
+func (p *player) as(worker, line string) Answer {
+	p.t.Helper()
+	item := call(p.t, line)
+	item.Worker = worker
+	return p.item(item)
+}
+
+func (p *player) expect(answer Answer, made uint64, reply string) {
+	p.t.Helper()
+	if answer.Refusal != 0 || answer.Made != made || answer.Reply.String() != reply {
+		p.t.Errorf("%d %v (refusal %d %s), and not %d %s", answer.Made, &answer.Reply, answer.Refusal, answer.Words, made, reply)
+	}
+}
+
+func (p *player) refused(answer Answer, refusal Refusal, words string) {
+	p.t.Helper()
+	if answer.Refusal != refusal || !strings.Contains(answer.Words, words) {
+		p.t.Errorf("%d %q, and not %d %q", answer.Refusal, answer.Words, refusal, words)
+	}
+}
+
+// snapshot is the state as a snapshot has it.
+func (p *player) snapshot() []byte {
+	p.t.Helper()
+	var text bytes.Buffer
+	if err := p.s.Freeze()(&text); err != nil {
+		p.t.Fatal(err)
+	}
+	return text.Bytes()
+}
+
+// restored is a player whose state begins in a snapshot.
+func (p *player) restored(snapshot []byte) *player {
+	p.t.Helper()
+	other := &player{t: p.t, s: New(), index: p.index}
+	if err := other.s.Restore(bytes.NewReader(snapshot)); err != nil {
+		p.t.Fatal(err)
+	}
+	return other
+}
+
+// one_repair of docs/RULES.md.
+func TestCallsAreThoseOfTheRules(t *testing.T) {
+	p := newPlayer(t)
+	for i, it := range []struct{ line, reply string }{
+		{"place 1", "placed 0:0 1:0 2:0 3:0 4:0 5:0 6:0 7:0 8:0 9:0 10:0 11:0 16:0 12:0 13:0 14:0"},
+		{"fail 3", "changed"},
+		{"lease 1 3", "granted 1 3 17:0 epoch 1 local 0 1 2 4 5 12"},
+		{"lease 1 3", "refused 110 1"},
+		{"done 1 3 2", "refused 113"},
+		{"done 1 3 1", "ended"},
+	} {
+		p.expect(p.call(it.line), uint64(i+1), it.reply)
+	}
+}
+
+func TestItemsOfOneEntryAreAnsweredInOrder(t *testing.T) {
+	p := newPlayer(t)
+	other := call(t, "tick")
+	other.Book = "p1"
+	answers := p.items(call(t, "tick"), &Item{Action: Create, Book: "p1", Nodes: twenty}, other, call(t, "tick"))
+	p.expect(answers[0], 1, "ticked 1 0")
+	p.expect(answers[2], 1, "ticked 1 0")
+	p.expect(answers[3], 2, "ticked 2 0")
+}
+
+func TestBooksAreMade(t *testing.T) {
+	p := newPlayer(t)
+	image := "image 1\nbefore 5\nclock 2\nend\n"
+	for _, it := range []struct {
+		name  string
+		item  Item
+		want  Answer
+		words string
+	}{
+		{"again", Item{Book: "p0", Nodes: twenty}, Answer{Opens: 1, IsAgain: true}, ""},
+		{"otherwise", Item{Book: "p0", Nodes: nodesOf(20, 5)}, Answer{Refusal: BookExists}, "with other nodes"},
+		{"otherwise, with an image", Item{Book: "p0", Nodes: twenty, Image: []byte(image)}, Answer{Refusal: BookExists}, "with other nodes"},
+		{"in an image", Item{Book: "p1", Nodes: twenty, Image: []byte(image)}, Answer{Made: 5, Opens: 1}, ""},
+		{"in it again", Item{Book: "p1", Nodes: twenty, Image: []byte(image)}, Answer{Opens: 1, IsAgain: true}, ""},
+		{"over no nodes", Item{Book: "p2"}, Answer{Refusal: BadText}, "the topology has no nodes: topology 2"},
+		{"over a bad node", Item{Book: "p2", Nodes: nodesOf(3, 257)}, Answer{Refusal: BadText}, "out of its range: topology 4 0"},
+		{"in no image", Item{Book: "p2", Nodes: twenty, Image: []byte("image 1\nbefore x")}, Answer{Refusal: BadText}, "image 2"},
+		{"in another image", Item{Book: "p2", Nodes: twenty, Image: []byte("image 1\nbefore 0\nclock 0\nnode 77 down\nend\n")},
+			Answer{Refusal: BadText}, "the topology has no such node: image 4 cause 6"},
+	} {
+		it.item.Action = Create
+		answer := p.item(&it.item)
+		words := answer.Words
+		answer.Words = ""
+		if !reflect.DeepEqual(answer, it.want) || !strings.Contains(words, it.words) {
+			t.Errorf("%s: %+v %q", it.name, answer, words)
+		}
+	}
+	if names := p.s.Names(); !reflect.DeepEqual(names, []string{"p0", "p1"}) {
+		t.Error(names)
+	}
+}
+
+func TestABookGoesOnOverOtherNodes(t *testing.T) {
+	p := newPlayer(t)
+	p.call("place 1")
+	reopen := func(nodes []byte) Answer { return p.item(&Item{Action: Reopen, Book: "p0", Nodes: nodes}) }
+	if answer := reopen(twenty); !answer.IsAgain || answer.Opens != 1 {
+		t.Errorf("%+v", answer)
+	}
+	p.refused(reopen(nodesOf(3, 4)), BadText, "the topology has no such node: image 4 cause 6") // the first home is on node 3
+	if answer := reopen(nodesOf(21, 4)); answer.Made != 1 || answer.Opens != 2 || answer.Refusal != 0 {
+		t.Errorf("%+v", answer)
+	}
+	p.expect(p.call("up 20"), 2, "refused 105")
+	at := call(t, "tick")
+	at.At = &Place{2, 1}
+	p.refused(p.item(at), Moved, "the book stands at 2, opened 2 times")
+	at.At = &Place{2, 2}
+	p.expect(p.item(at), 3, "ticked 1 0")
+	view(t, p, func(v *View) {
+		var lines []string
+		for place := uint64(0); place < v.Stand.Made; place = uint64(len(lines)) { // (those from before come first, and alone)
+			rows, err := v.Entries(place, 10)
+			if err != nil || len(rows) == 0 {
+				t.Fatal(rows, err)
+			}
+			for _, row := range rows {
+				lines = append(lines, row.Command.String())
+			}
+		}
+		if !reflect.DeepEqual(lines, []string{"place 1", "up 20", "tick"}) {
+			t.Error(lines)
+		}
+	})
+}
+
+func view(t *testing.T, p *player, look func(*View)) {
+	t.Helper()
+	err := p.s.Look("p0", func(v *View) error {
+		look(v)
+		return nil
+	})
+	if err != nil {
+		t.Fatal(err)
+	}
+}
+
+func TestACallIsMadeOnlyWhereItsCallerSawTheBook(t *testing.T) {
+	p := newPlayer(t)
+	p.call("tick")
+	for _, place := range []Place{{0, 1}, {2, 1}, {1, 0}, {1, 2}} {
+		item := call(t, "tick")
+		item.At = &Place{place.Made, place.Opens}
+		p.refused(p.item(item), Moved, "the book stands at 1, opened 1 times")
+	}
+	item := call(t, "tick")
+	item.At = &Place{1, 1}
+	p.expect(p.item(item), 2, "ticked 2 0")
+}
+
+func (p *player) keyed(key, line string) Answer {
+	p.t.Helper()
+	item := call(p.t, line)
+	item.Key = key
+	return p.item(item)
+}
+
+func TestAKeyIsAnsweredOnce(t *testing.T) {
+	p := newPlayer(t)
+	first := p.keyed("a", "place 1")
+	p.call("tick")
+	for round, q := range []*player{p, p.restored(p.snapshot())} {
+		again := q.keyed("a", "place 1")
+		if !again.IsAgain || again.Made != 1 || again.Reply != first.Reply || again.Opens != 1 {
+			t.Errorf("round %d: %+v", round, again)
+		}
+		q.refused(q.keyed("a", "place 2"), KeyReused, "another call")
+		q.expect(q.keyed("b", "tick"), 3, "ticked 2 0")
+	}
+	item := call(t, "tick")
+	item.Key, item.Session = "b", 2
+	p.refused(p.item(item), KeyReused, "another call")
+}
+
+func TestTheOldestKeyIsForgotten(t *testing.T) {
+	p := newPlayer(t)
+	for i := 1; i <= KeysOfBook+1; i++ {
+		p.keyed(fmt.Sprint(i), "tick")
+	}
+	for _, q := range []*player{p, p.restored(p.snapshot())} {
+		q.expect(q.keyed("2", "tick"), 2, "ticked 2 0")
+		q.expect(q.keyed(fmt.Sprint(KeysOfBook+1), "tick"), KeysOfBook+1, fmt.Sprintf("ticked %d 0", KeysOfBook+1))
+		q.expect(q.keyed("1", "tick"), KeysOfBook+2, fmt.Sprintf("ticked %d 0", KeysOfBook+2)) // it is new, and 2 is forgotten now
+		q.expect(q.keyed("2", "tick"), KeysOfBook+3, fmt.Sprintf("ticked %d 0", KeysOfBook+3))
+	}
+}
+
+func TestAWorkerReportsItsOwnLeases(t *testing.T) {
+	p := newPlayer(t)
+	for _, line := range []string{"place 1", "fail 3", "fail 7"} {
+		p.call(line)
+	}
+	p.expect(p.as("w1", "lease 1 3"), 4, "granted 1 3 17:0 epoch 1 local 0 1 2 4 5 12")
+	p.expect(p.call("lease 1 7"), 5, "granted 1 7 15:0 epoch 1 local 6 8 9 10 11 13")
+	for _, q := range []*player{p, p.restored(p.snapshot())} {
+		for _, it := range []struct{ worker, line, holder string }{
+			{"w2", "done 1 3 1", "w1"}, {"", "done 1 3 1", "w1"}, {"w2", "abandon 1 3 1", "w1"}, {"w1", "done 1 7 1", ""},
+		} {
+			answer := q.as(it.worker, it.line)
+			q.expect(answer, 0, "refused 114 1")
+			if answer.Holder != it.holder {
+				t.Errorf("%s of %q: the holder is %q", it.line, it.worker, answer.Holder)
+			}
+		}
+		view(t, q, func(v *View) {
+			holders, err := v.Holders()
+			if want := []Holder{{1, 3, 1, "w1"}}; err != nil || !reflect.DeepEqual(holders, want) || v.Stand.Made != 5 {
+				t.Error(holders, err, v.Stand)
+			}
+		})
+		q.expect(q.as("w2", "done 1 3 2"), 6, "refused 113") // of no live lease: so the rules refuse it
+		q.expect(q.as("w2", "done 9 3 1"), 7, "refused 101")
+		q.expect(q.as("w1", "done 1 3 1"), 8, "ended")
+		q.expect(q.as("w1", "done 1 3 1"), 9, "refused 113")
+		q.expect(q.call("done 1 7 1"), 10, "ended")
+	}
+}
+
+// Whatever ends a lease ends its holding, and the next lease is of whoever asked for it.
+func TestAHoldingEndsWithItsLease(t *testing.T) {
+	for name, lines := range map[string][]string{
+		"revoke": {"revoke 1 3"}, "ticks": {"tick", "tick", "tick"}, "fail": {"fail 17", "join 17"}, "drop": {"drop 1", "place 1", "fail 2"},
+	} {
+		p := newPlayer(t)
+		for _, line := range []string{"place 1", "fail 3"} {
+			p.call(line)
+		}
+		p.as("w1", "lease 1 3")
+		for _, line := range lines {
+			p.call(line)
+		}
+		if holders := p.s.books["p0"].holders; len(holders) != 0 {
+			t.Errorf("%s: %v", name, holders)
+		}
+	}
+}
+
+func TestNoBookIsRefused(t *testing.T) {
+	p := newPlayer(t)
+	item := call(t, "tick")
+	item.Book = "p9"
+	p.refused(p.item(item), NoBook, "there is no book p9")
+	if err := p.s.Look("p9", func(*View) error { return nil }); err != ErrNoBook {
+		t.Error(err)
+	}
+}
+
+func TestANumberOutOfRangeIsRefused(t *testing.T) {
+	p := newPlayer(t)
+	item := call(t, "tick")
+	item.Session = 9
+	p.refused(p.item(item), OutOfRange, "out of range")
+	p.expect(p.call("tick"), 1, "ticked 1 0")
+}
+
+// withRules is an entry of a member whose library has other rules.
+func withRules(rules byte, items ...*Item) []byte {
+	payload := Encode(items)
+	payload[1] = rules
+	return payload
+}
+
+func TestOtherRulesAreRefusedByName(t *testing.T) {
+	others := byte(book.Rules() + 1)
+	p := newPlayer(t)
+	answers, err := p.s.Apply(2, withRules(others, call(t, "tick"))) // the group's are ours: whoever sent this is wrong here
+	if err != nil {
+		t.Fatal(err)
+	}
+	p.refused(answers.([]Answer)[0], OtherRules, fmt.Sprintf("the member has rules %d, and the group has rules %d", others, book.Rules()))
+	p.index = 2
+	p.expect(p.call("tick"), 1, "ticked 1 0")
+	fresh := New() // the group's are not ours: this member is wrong here
+	want := fmt.Sprintf("is of rules %d, and this library has rules %d", others, book.Rules())
+	if _, err := fresh.Apply(1, withRules(others, &Item{Action: Create, Book: "p0", Nodes: twenty})); err == nil || !strings.Contains(err.Error(), want) {
+		t.Error(err)
+	}
+	if len(fresh.Names()) != 0 {
+		t.Error("something of it was applied")
+	}
+}
+
+func TestASnapshotOfOtherRulesIsRefusedByName(t *testing.T) {
+	var text bytes.Buffer
+	text.WriteString(magic)
+	if err := writeRecord(&text, []byte{byte(book.Rules() + 1), 0}); err != nil {
+		t.Fatal(err)
+	}
+	err := New().Restore(&text)
+	want := fmt.Sprintf("is of rules %d, and this library has rules %d", book.Rules()+1, book.Rules())
+	if err == nil || errors.Is(err, engine.ErrDamaged) || !strings.Contains(err.Error(), want) {
+		t.Error(err)
+	}
+}
+
+func TestAnEntryThatIsDamagedIsRefused(t *testing.T) {
+	whole := Encode([]*Item{call(t, "done 1 3 1"), {Action: Create, Book: "p1", Nodes: twenty}})
+	for length := range whole {
+		if _, _, err := decode(whole[:length]); err == nil {
+			t.Errorf("%d of %d bytes are taken", length, len(whole))
+		}
+	}
+	if _, _, err := decode(append(whole, 0)); err == nil {
+		t.Error("a byte behind the end is taken")
+	}
+	if _, err := New().Apply(1, append([]byte{Form + 1}, whole[1:]...)); err == nil || !strings.Contains(err.Error(), "it has form 2") {
+		t.Error(err)
+	}
+}
+
+func TestItemsAreReadAsTheyWereWritten(t *testing.T) {
+	items := []*Item{
+		{Action: Call, Book: "p0", Key: "k", Worker: "w", Session: 8, Command: call(t, "done 4095 15 4294967295").Command, At: &Place{1 << 60, 3}},
+		{Action: Call, Book: "p0", Session: 1, Command: call(t, "upgrade 255").Command},
+		{Action: Call, Book: "p0", Session: 1, Command: call(t, "join 65535").Command},
+		{Action: Create, Book: "p1", Nodes: []byte("n"), Image: []byte("i")},
+		{Action: Reopen, Book: "p1", Nodes: []byte("m")},
+	}
+	rules, read, err := decode(Encode(items))
+	if err != nil || rules != book.Rules() || !reflect.DeepEqual(read, items) {
+		t.Error(rules, err)
+	}
+}
+
+func TestASnapshotIsTheWholeState(t *testing.T) {
+	p := newPlayer(t)
+	for _, line := range []string{"place 1", "place6 2", "fail 3", "down 5", "drain 0"} {
+		p.call(line)
+	}
+	p.as("w1", "lease 1 3")
+	p.keyed("k", "next")
+	p.item(&Item{Action: Create, Book: "p1", Nodes: nodesOf(30, 2)})
+	snapshot := p.snapshot()
+	q := p.restored(snapshot)
+	if !bytes.Equal(q.snapshot(), snapshot) {
+		t.Error("a state that begins in a snapshot has another one")
+	}
+	for _, line := range []string{"next", "tick", "tick", "tick", "next"} {
+		one, other := p.call(line), q.call(line)
+		if !reflect.DeepEqual(one, other) {
+			t.Errorf("%s: %+v and %+v", line, one, other)
+		}
+	}
+	if !bytes.Equal(q.snapshot(), p.snapshot()) {
+		t.Error("later snapshots differ")
+	}
+}
+
+// A snapshot may be written while entries come. Then it is replayed from the index at which it was begun.
+func TestEntriesThatASnapshotHasAreNotMadeTwice(t *testing.T) {
+	p := newPlayer(t)
+	p.call("tick")
+	write, begun := p.s.Freeze(), p.index
+	var payloads [][]byte
+	for i := 0; i < 5; i++ { // (entries that come while it is written)
+		payloads = append(payloads, Encode([]*Item{call(t, "tick"), {Action: Create, Book: fmt.Sprint("late", i), Nodes: twenty}}))
+		p.index++
+		if _, err := p.s.Apply(p.index, payloads[i]); err != nil {
+			t.Fatal(err)
+		}
+	}
+	var text bytes.Buffer
+	if err := write(&text); err != nil {
+		t.Fatal(err)
+	}
+	q := p.restored(text.Bytes())
+	for i, payload := range payloads {
+		if _, err := q.s.Apply(begun+uint64(i)+1, payload); err != nil {
+			t.Fatal(err)
+		}
+	}
+	q.expect(q.call("tick"), 7, "ticked 7 0")
+	if len(q.s.Names()) != 6 {
+		t.Error(q.s.Names())
+	}
+}
+
+func TestADamagedSnapshotIsRefused(t *testing.T) {
+	p := newPlayer(t)
+	p.call("place 1")
+	whole := p.snapshot()
+	other := newPlayer(t)
+	other.call("tick")
+	for place := 0; place < len(whole); place += 7 {
+		text := append([]byte(nil), whole...)
+		text[place] ^= 1
+		if err := other.s.Restore(bytes.NewReader(text)); !errors.Is(err, engine.ErrDamaged) {
+			t.Errorf("byte %d: %v", place, err)
+		}
+		if err := other.s.Restore(bytes.NewReader(whole[:place])); !errors.Is(err, engine.ErrDamaged) {
+			t.Errorf("%d bytes: %v", place, err)
+		}
+	}
+	other.expect(other.call("tick"), 2, "ticked 2 0") // its state is as it was
+}
+
+func TestEntriesAreForgottenInTime(t *testing.T) {
+	p := newPlayer(t)
+	item := call(t, "tick")
+	for i := 0; i < ForgetAt+10; i++ {
+		p.item(item)
+	}
+	view(t, p, func(v *View) {
+		if v.Before() != ForgetAt || v.Stand.Made != ForgetAt+10 {
+			t.Error(v.Before(), v.Stand)
+		}
+		for _, place := range []uint64{ForgetAt - TailOfBook, ForgetAt - 1, ForgetAt, ForgetAt + 9} {
+			rows, err := v.Entries(place, 1)
+			if err != nil || len(rows) != 1 || uint64(rows[0].Reply.Clock) != place+1 {
+				t.Error(place, rows, err)
+			}
+		}
+		var forgotten *Forgotten
+		if _, err := v.Entries(ForgetAt-TailOfBook-1, 1); !errors.As(err, &forgotten) || forgotten.First != ForgetAt-TailOfBook {
+			t.Error(err)
+		}
+		if rows, err := v.Entries(ForgetAt+10, 1); err != nil || len(rows) != 0 {
+			t.Error(rows, err)
+		}
+	})
+}
+
+func TestALookWaitsForTheNextEntry(t *testing.T) {
+	p := newPlayer(t)
+	var grown <-chan struct{}
+	view(t, p, func(v *View) { grown = v.Grown() })
+	select {
+	case <-grown:
+		t.Fatal("nothing has come")
+	default:
+	}
+	p.call("tick")
+	<-grown
+	view(t, p, func(v *View) { grown = v.Grown() })
+	if err := p.s.Restore(bytes.NewReader(p.snapshot())); err != nil {
+		t.Fatal(err)
+	}
+	<-grown // a snapshot has taken the place of the book
+}
+
+func FuzzDecode(f *testing.F) {
+	f.Add(Encode([]*Item{{Action: Call, Book: "p0", Key: "k", Session: 1, Command: book.Command{Kind: book.Tick}, At: &Place{1, 1}}}))
+	f.Add(Encode([]*Item{{Action: Create, Book: "p0", Nodes: twenty}, {Action: Reopen, Book: "p0", Nodes: twenty}}))
+	f.Add([]byte{Form, 1, 200, 200, 200, 200, 200, 1})
+	f.Fuzz(func(t *testing.T, payload []byte) {
+		rules, items, err := decode(payload)
+		if err != nil || rules != book.Rules() {
+			return
+		}
+		_, again, err := decode(Encode(items))
+		if err != nil || !reflect.DeepEqual(items, again) {
+			t.Errorf("%q is read otherwise when it is written again: %v", payload, err)
+		}
+	})
+}

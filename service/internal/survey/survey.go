@@ -1,0 +1,364 @@
+// Package survey looks at whole books, for metrics and for the page that people watch: how many stripes are at which level,
+// what work is left, who holds which lease, and what was called lately. It changes nothing.
+package survey
+
+import (
+	"fmt"
+	"math/bits"
+	"sort"
+	"strings"
+	"time"
+
+	"lrcman/service/internal/book"
+	"lrcman/service/internal/state"
+)
+
+// A View is what a look at a book sees. Nobody else uses the book meanwhile.
+type View interface {
+	Stand() state.Place
+	StripeRows() ([]book.StripeRow, error)
+	NodeRows() ([]book.NodeRow, error)
+	LeaseRows() ([]book.LeaseRow, error)
+	Homes(stripe uint16) ([book.Fragments]book.Home, error)
+	Repair(stripe uint16, fragment uint8) (book.Plan, error)
+	Peek(session uint8, command book.Command) (book.Reply, error)
+	Holders() ([]state.Holder, error)
+	Entries(place uint64, most int) ([]book.Entry, error)
+	Upgrading() (uint8, bool)
+	Clock() uint32
+}
+
+// Books are the books of one member, by name.
+type Books interface {
+	Names() []string
+	Look(name string, look func(View) error) error
+}
+
+type books struct{ *state.State }
+
+type view struct{ *state.View }
+
+// OfState are the books of a state.
+func OfState(s *state.State) Books { return books{s} }
+
+func (b books) Look(name string, look func(View) error) error {
+	return b.State.Look(name, func(v *state.View) error { return look(view{v}) })
+}
+
+func (v view) Stand() state.Place { return v.View.Stand }
+
+// A Report is how one book stands.
+type Report struct {
+	Book      string  `json:"book"`
+	N         uint64  `json:"n"`
+	Opens     uint64  `json:"opens"`
+	Clock     uint32  `json:"clock"`
+	Health    Health  `json:"health"`
+	Stripes   Stripes `json:"stripes"`
+	Work      Work    `json:"work"`
+	Nodes     []Node  `json:"nodes"`
+	Risks     []Risk  `json:"risks"`
+	Leases    []Lease `json:"leases"`
+	Upgrading *uint8  `json:"upgrading"` // the upgrade domain; nil: none
+}
+
+// A Health is how a book fares, in a word and in a sentence.
+type Health struct {
+	Word string `json:"word"`
+	Why  string `json:"why"`
+}
+
+// Stripes are numbers of stripes by level, and of fragments that are missing.
+type Stripes struct {
+	All         int    `json:"all"`
+	Whole       int    `json:"whole"`
+	AtRisk      [3]int `json:"at_risk"` // by margin
+	Unavailable int    `json:"unavailable"`
+	Lost        int    `json:"lost"`
+	Missing     int    `json:"missing_fragments"`
+	Homeless    int    `json:"homeless_fragments"`
+}
+
+// Work is numbers of fragments that need a lease: by standing, and by the kind of their repair.
+type Work struct {
+	Leased        int `json:"leased"`
+	Open          int `json:"open"`
+	NoNode        int `json:"no_node"`
+	Unrecoverable int `json:"unrecoverable"`
+	Local         int `json:"local"`
+	Global        int `json:"global"`
+	Move          int `json:"move"`
+}
+
+// All is the number of fragments that need a lease.
+func (w Work) All() int { return w.Leased + w.Open + w.NoNode + w.Unrecoverable }
+
+// A Node is a row of the table of nodes.
+type Node struct {
+	Node    uint16 `json:"node"`
+	Fault   uint8  `json:"fault"`
+	Upgrade uint8  `json:"upgrade"`
+	Mode    string `json:"mode"`
+	Online  bool   `json:"online"`
+	Down    bool   `json:"down"`
+	Load    uint32 `json:"load"`
+	Slots   uint16 `json:"slots"`
+}
+
+// A Risk is a stripe that is not whole. Its margin is nil where too many fragments are missing.
+type Risk struct {
+	Stripe  uint16 `json:"stripe"`
+	Code    string `json:"code"`
+	Level   string `json:"level"`
+	Margin  *uint8 `json:"margin"`
+	Missing uint16 `json:"missing"` // fragment f is bit f
+}
+
+// A Lease is a live lease. Ticks is its age; Since is when it was granted, or first seen if it is older than the watch.
+type Lease struct {
+	Stripe   uint16    `json:"stripe"`
+	Fragment uint8     `json:"fragment"`
+	Session  uint8     `json:"session"`
+	Worker   string    `json:"worker"`
+	Target   string    `json:"target"`
+	Epoch    uint32    `json:"epoch"`
+	Ticks    uint32    `json:"ticks"`
+	Since    time.Time `json:"since"`
+	AtLeast  bool      `json:"at_least"`
+}
+
+// The number of ticks that a lease lives.
+const term = 3
+
+// take looks at a whole book.
+func take(name string, v View) (*Report, error) {
+	stand := v.Stand()
+	report := &Report{Book: name, N: stand.Made, Opens: stand.Opens, Clock: v.Clock(), Nodes: []Node{}, Risks: []Risk{}, Leases: []Lease{}}
+	if domain, ok := v.Upgrading(); ok {
+		report.Upgrading = &domain
+	}
+	nodes, err := v.NodeRows()
+	if err != nil {
+		return nil, err
+	}
+	draining := &nodeSet{}
+	for _, row := range nodes {
+		if row.Mode == book.Draining {
+			draining.add(row.Number)
+		}
+		report.Nodes = append(report.Nodes, Node{row.Number, row.Fault, row.Upgrade, row.Mode.String(), row.IsOnline == 1,
+			row.IsDown == 1, row.Load, row.Slots})
+	}
+	if err := report.leases(v); err != nil {
+		return nil, err
+	}
+	if err := report.stripes(v, draining); err != nil {
+		return nil, err
+	}
+	report.Health = report.health()
+	return report, nil
+}
+
+// A nodeSet is a set of nodes; each stripe's homes are looked up in it.
+type nodeSet struct {
+	bits  [1 << 16 / 64]uint64
+	count int
+}
+
+func (s *nodeSet) add(node uint16) {
+	s.bits[node/64] |= 1 << (node % 64)
+	s.count++
+}
+
+func (s *nodeSet) has(node uint16) bool { return s.bits[node/64]>>(node%64)&1 == 1 }
+
+func (r *Report) leases(v View) error {
+	rows, err := v.LeaseRows()
+	if err != nil {
+		return err
+	}
+	holders, err := v.Holders()
+	if err != nil {
+		return err
+	}
+	workers := map[fragment]string{}
+	for _, holder := range holders {
+		workers[fragment{holder.Stripe, holder.Fragment}] = holder.Worker
+	}
+	for _, row := range rows {
+		lease := Lease{Stripe: row.Stripe, Fragment: row.Fragment, Session: row.Holder, Target: row.Target.String(), Epoch: row.Epoch,
+			Worker: workers[fragment{row.Stripe, row.Fragment}]}
+		if left := row.Expiry - r.Clock; left <= term {
+			lease.Ticks = term - left
+		}
+		r.Leases = append(r.Leases, lease)
+	}
+	return nil
+}
+
+// A fragment of a stripe.
+type fragment struct {
+	stripe uint16
+	number uint8
+}
+
+// stripes counts levels and work. Only stripes that miss a fragment are walked, and all while a node is draining.
+func (r *Report) stripes(v View, draining *nodeSet) error {
+	rows, err := v.StripeRows()
+	if err != nil {
+		return err
+	}
+	leased := map[fragment]bool{}
+	for _, lease := range r.Leases {
+		leased[fragment{lease.Stripe, lease.Fragment}] = true
+	}
+	for _, row := range rows {
+		r.Stripes.add(row)
+		if row.Level.Kind != book.Whole {
+			r.Risks = append(r.Risks, riskOf(row))
+		}
+		if row.Missing == 0 && draining.count == 0 {
+			continue
+		}
+		if err := r.workOf(v, row, draining, leased); err != nil {
+			return err
+		}
+	}
+	sort.SliceStable(r.Risks, func(i, j int) bool { return rank(r.Risks[i]) < rank(r.Risks[j]) })
+	return nil
+}
+
+func (s *Stripes) add(row book.StripeRow) {
+	s.All++
+	s.Missing += bits.OnesCount16(row.Missing)
+	switch row.Level.Kind {
+	case book.Whole:
+		s.Whole++
+	case book.AtRisk:
+		s.AtRisk[row.Level.Margin]++
+	case book.Unavailable:
+		s.Unavailable++
+	case book.Lost:
+		s.Lost++
+	}
+}
+
+func riskOf(row book.StripeRow) Risk {
+	risk := Risk{Stripe: row.Stripe, Code: row.Code.String(), Level: row.Level.Kind.String(), Missing: row.Missing}
+	if row.Level.Kind == book.AtRisk {
+		margin := row.Level.Margin
+		risk.Margin = &margin
+	}
+	return risk
+}
+
+// rank orders stripes for people: lost ones first, then unavailable ones, then by margin.
+func rank(risk Risk) int {
+	switch {
+	case risk.Margin != nil:
+		return 2 + int(*risk.Margin)
+	case risk.Level == book.Lost.String():
+		return 0
+	}
+	return 1
+}
+
+func (r *Report) workOf(v View, row book.StripeRow, draining *nodeSet, leased map[fragment]bool) error {
+	homes, err := v.Homes(row.Stripe)
+	if err != nil {
+		return err
+	}
+	for f := uint8(0); int(f) < row.Code.Fragments(); f++ {
+		home := homes[f]
+		if home.IsThere == 0 {
+			r.Stripes.Homeless++
+		} else if !draining.has(home.Seat.Node) {
+			continue
+		}
+		if err := r.Work.add(v, fragment{row.Stripe, f}, leased); err != nil {
+			return err
+		}
+	}
+	return nil
+}
+
+func (w *Work) add(v View, key fragment, leased map[fragment]bool) error {
+	plan, err := v.Repair(key.stripe, key.number)
+	if err != nil {
+		return err
+	}
+	switch plan.Repair {
+	case book.Local, book.Local3:
+		w.Local++
+	case book.Global:
+		w.Global++
+	case book.Move:
+		w.Move++
+	}
+	if leased[key] {
+		w.Leased++
+		return nil
+	}
+	reply, err := v.Peek(1, book.Command{Kind: book.Lease, Stripe: key.stripe, Fragment: key.number})
+	if err != nil {
+		return err
+	}
+	switch {
+	case reply.Kind == book.Granted:
+		w.Open++
+	case reply.Refusal == book.NoLawfulNode:
+		w.NoNode++
+	default:
+		w.Unrecoverable++
+	}
+	return nil
+}
+
+// The words of a Health, from worst to best.
+const (
+	Lost        = "lost"
+	Unavailable = "unavailable"
+	Critical    = "critical"
+	Degraded    = "degraded"
+	Moving      = "moving"
+	Healthy     = "healthy"
+)
+
+func (r *Report) health() Health {
+	s := r.Stripes
+	why := []string{}
+	say := func(count int, one, many string) {
+		if count == 1 {
+			why = append(why, "1 "+one)
+		} else if count > 1 {
+			why = append(why, fmt.Sprintf("%d %s", count, many))
+		}
+	}
+	say(s.Lost, "stripe is lost", "stripes are lost")
+	say(s.Unavailable, "stripe is unavailable", "stripes are unavailable")
+	for margin, count := range s.AtRisk {
+		say(count, fmt.Sprintf("stripe has margin %d", margin), fmt.Sprintf("stripes have margin %d", margin))
+	}
+	say(r.Work.All(), "fragment waits for repair or a move", "fragments wait for repair or a move")
+	if len(why) == 0 {
+		why = append(why, "every stripe is whole and nothing is to be moved")
+	}
+	return Health{r.word(), strings.Join(why, ", ")}
+}
+
+func (r *Report) word() string {
+	s := r.Stripes
+	switch {
+	case s.Lost > 0:
+		return Lost
+	case s.Unavailable > 0:
+		return Unavailable
+	case s.AtRisk[0] > 0:
+		return Critical
+	case s.AtRisk[1]+s.AtRisk[2] > 0:
+		return Degraded
+	case r.Work.All() > 0:
+		return Moving
+	}
+	return Healthy
+}

@@ -1,0 +1,243 @@
+package survey_test
+
+import (
+	"fmt"
+	"reflect"
+	"testing"
+	"time"
+
+	"lrcman/service/internal/survey"
+	"lrcman/service/internal/survey/recorded"
+)
+
+var states = []string{"quiet", "rack", "upgrade", "harm", "most"}
+
+func load(t *testing.T, name string) *recorded.Book {
+	t.Helper()
+	b, err := recorded.Load(name)
+	if err != nil {
+		t.Fatal(err)
+	}
+	return b
+}
+
+// A clock goes on only when it is told to.
+type clock struct{ now time.Time }
+
+func newClock() *clock                                  { return &clock{time.Unix(1_700_000_000, 0)} }
+func (c *clock) time() time.Time                        { return c.now }
+func (c *clock) pass(d time.Duration)                   { c.now = c.now.Add(d) }
+func (c *clock) watch(b recorded.Books) *survey.Watcher { return survey.NewWatcher(b, c.time) }
+
+func report(t *testing.T, w *survey.Watcher, name string) *survey.Report {
+	t.Helper()
+	r, err := w.Report(name)
+	if err != nil {
+		t.Fatal(err)
+	}
+	return r
+}
+
+func TestAReportCountsWhatTheModelCounts(t *testing.T) {
+	for _, name := range states {
+		b := load(t, name)
+		r := report(t, newClock().watch(recorded.Books{name: b}), name)
+		got := map[string]int{"stripes": r.Stripes.All, "whole": r.Stripes.Whole, "at_risk_margin_0": r.Stripes.AtRisk[0],
+			"at_risk_margin_1": r.Stripes.AtRisk[1], "at_risk_margin_2": r.Stripes.AtRisk[2], "unavailable": r.Stripes.Unavailable,
+			"lost": r.Stripes.Lost, "missing_fragments": r.Stripes.Missing, "homeless_fragments": r.Stripes.Homeless,
+			"leases": len(r.Leases), "clock": int(r.Clock), "entries": int(r.N)}
+		for what, value := range got {
+			if want := b.Value(what); value != want {
+				t.Errorf("%s: %s is %d, and the model has %d", name, what, value, want)
+			}
+		}
+		standings := map[string]int{"leased": r.Work.Leased, "open": r.Work.Open, "no_node": r.Work.NoNode, "unrecoverable": r.Work.Unrecoverable}
+		for standing, count := range standings {
+			if want := b.Standing(standing); count != want {
+				t.Errorf("%s: %d fragments are %s, and the model has %d", name, count, standing, want)
+			}
+		}
+		if kinds := r.Work.Local + r.Work.Global + r.Work.Move; kinds != len(b.Tasks) || r.Work.All() != len(b.Tasks) {
+			t.Errorf("%s: work %+v, and the model has %d rows", name, r.Work, len(b.Tasks))
+		}
+		upgrading := "none"
+		if r.Upgrading != nil {
+			upgrading = fmt.Sprint(*r.Upgrading)
+		}
+		if upgrading != b.Status["upgrading"] {
+			t.Errorf("%s: upgrading %s, and the model has %s", name, upgrading, b.Status["upgrading"])
+		}
+	}
+}
+
+func TestTheStatesReachEachWordButTwo(t *testing.T) {
+	want := map[string]string{"quiet": survey.Healthy, "rack": survey.Degraded, "upgrade": survey.Degraded, "harm": survey.Lost,
+		"most": survey.Degraded}
+	for name, word := range want {
+		if r := report(t, newClock().watch(recorded.Books{name: load(t, name)}), name); r.Health.Word != word {
+			t.Errorf("%s is %s (%s), and should be %s", name, r.Health.Word, r.Health.Why, word)
+		}
+	}
+}
+
+func TestStripesAtRiskStandWorstFirst(t *testing.T) {
+	r := report(t, newClock().watch(recorded.Books{"harm": load(t, "harm")}), "harm")
+	ranks := map[string]int{"lost": 0, "unavailable": 1, "risk": 2}
+	for i := 1; i < len(r.Risks); i++ {
+		if ranks[r.Risks[i-1].Level] > ranks[r.Risks[i].Level] {
+			t.Errorf("stripe %d stands before stripe %d", r.Risks[i-1].Stripe, r.Risks[i].Stripe)
+		}
+	}
+	if len(r.Risks) != 6 {
+		t.Errorf("%d rows", len(r.Risks))
+	}
+}
+
+func TestCountsBeginWithTheWatch(t *testing.T) {
+	b := load(t, "rack")
+	b.Show(40)
+	w := newClock().watch(recorded.Books{"rack": b})
+	w.Step()
+	if counts := w.Counts("rack"); len(counts.Commands) != 0 {
+		t.Errorf("entries of before were counted: %v", counts.Commands)
+	}
+	if last := w.Last("rack"); len(last) != 20 || last[19].N != 40 || last[19].Command != b.Lines[39].Command {
+		t.Errorf("the last lines are %v", last)
+	}
+	b.Show(len(b.Lines))
+	w.Step()
+	w.Step()
+	total := uint64(0)
+	for _, count := range w.Counts("rack").Commands {
+		total += count
+	}
+	if total != uint64(len(b.Lines)-40) {
+		t.Errorf("%d entries were counted of %d", total, len(b.Lines)-40)
+	}
+}
+
+func TestAllEntriesOfANewBookAreCounted(t *testing.T) {
+	for _, name := range states {
+		books := recorded.Books{}
+		w := newClock().watch(books)
+		w.Step()
+		b := load(t, name)
+		books[name] = b
+		w.Step()
+		got := map[string]uint64{}
+		for cause, count := range w.Counts(name).Commands {
+			got[cause.Command+" "+cause.Reply] = count
+		}
+		if !reflect.DeepEqual(got, b.Counts) {
+			t.Errorf("%s: counted %v, and the model made %v", name, got, b.Counts)
+		}
+		last := w.Last(name)
+		if end := last[len(last)-1]; end.N != uint64(len(b.Lines)) || end.Reply != b.Lines[len(b.Lines)-1].Reply {
+			t.Errorf("%s: the last line is %v", name, end)
+		}
+	}
+}
+
+func TestForgottenEntriesAreTold(t *testing.T) {
+	b := load(t, "rack")
+	b.Show(10)
+	w := newClock().watch(recorded.Books{"rack": b})
+	w.Step()
+	b.First = 30
+	b.Show(50)
+	w.Step()
+	total := uint64(0)
+	counts := w.Counts("rack")
+	for _, count := range counts.Commands {
+		total += count
+	}
+	if counts.Missed != 20 || total != 20 {
+		t.Errorf("%d missed, %d counted", counts.Missed, total)
+	}
+}
+
+func TestRatesAndTheTimeThatIsLeft(t *testing.T) {
+	b := load(t, "rack")
+	c := newClock()
+	w := c.watch(recorded.Books{"rack": b})
+	b.Show(61)
+	w.Step()
+	c.pass(100 * time.Second)
+	b.Show(len(b.Lines))
+	w.Step()
+	work := report(t, w, "rack").Work
+	rates := w.Rates("rack", work)
+	done := b.Counts["done ended"]
+	if rates.Seconds != 100 || rates.Done != float64(done)/100 || rates.Commands != float64(len(b.Lines)-61)/100 {
+		t.Errorf("%+v, of %d done", rates, done)
+	}
+	able := b.Standing("open") + b.Standing("leased")
+	if rates.Left == nil || *rates.Left != int64(able)*100/int64(done) {
+		t.Errorf("%v seconds are left for %d fragments, of which %d were done in 100", rates.Left, able, done)
+	}
+	c.pass(2 * time.Hour)
+	if rates := w.Rates("rack", work); rates.Left != nil || rates.Done != 0 {
+		t.Errorf("after two hours: %+v", rates)
+	}
+	if rates := w.Rates("rack", survey.Work{}); rates.Left == nil || *rates.Left != 0 {
+		t.Errorf("without work: %+v", rates)
+	}
+}
+
+func TestLeasesHaveAgesAndWorkers(t *testing.T) {
+	b := load(t, "rack")
+	c := newClock()
+	w := c.watch(recorded.Books{"rack": b})
+	b.Show(61)
+	w.Step()
+	c.pass(time.Minute)
+	granted := c.now
+	b.Show(len(b.Lines))
+	w.Step()
+	c.pass(time.Minute)
+	leases := report(t, w, "rack").Leases
+	for i, lease := range leases {
+		want := b.Leases[i]
+		if lease.Worker != want.Worker || lease.Ticks != 3-(want.Expiry-uint32(b.Value("clock"))) || lease.Target != want.Target {
+			t.Errorf("lease %+v, and the model has %+v", lease, want)
+		}
+		if !lease.Since.Equal(granted) || lease.AtLeast {
+			t.Errorf("lease %+v was granted at %v", lease, granted)
+		}
+	}
+	late := report(t, c.watch(recorded.Books{"rack": b}), "rack").Leases
+	if !late[0].AtLeast || !late[0].Since.Equal(c.now) {
+		t.Errorf("a lease of before the watch: %+v", late[0])
+	}
+}
+
+func TestAReportIsKeptWhileNothingChanges(t *testing.T) {
+	b := load(t, "rack")
+	b.Show(90)
+	c := newClock()
+	w := c.watch(recorded.Books{"rack": b})
+	first := report(t, w, "rack")
+	c.pass(time.Hour)
+	if report(t, w, "rack") != first {
+		t.Error("it was made anew though nothing changed")
+	}
+	b.Show(91)
+	if report(t, w, "rack") == first {
+		t.Error("it was kept though the book changed")
+	}
+	b.Show(92)
+	c.pass(500 * time.Millisecond)
+	if r := report(t, w, "rack"); r.N != 91 {
+		t.Error("it was made anew twice in a second")
+	}
+	c.pass(500 * time.Millisecond)
+	if r := report(t, w, "rack"); r.N != 92 {
+		t.Errorf("it is of entry %d", r.N)
+	}
+}
+
+func TestABookThatIsNotThere(t *testing.T) {
+	if _, err := newClock().watch(recorded.Books{}).Report("p9"); err == nil {
+		t.Error("a report of no book")
+	}
+}
