@@ -96,11 +96,13 @@ def behind_generics(words):
 
 def public_items(tokens, around="", is_open=False):
     """The public items of a source: of each the name by which definitions may know it, and its text without a body."""
-    head, at = [], 0
+    head, depth, at = [], 0, 0
     while at < len(tokens):
         token = tokens[at]
         at += 1
-        if token != "{" and token != ";":
+        depth += (token in "([") - (token in ")]")
+        # (in brackets a `;` is that of an array, and a `{` that of a value)
+        if depth or token not in "{;":
             head.append(token)
             continue
         text = " ".join(head)
@@ -163,9 +165,10 @@ def definitions_in(path):
 
 
 @functools.cache
-def definitions(crate):
-    """The definitions of a crate's specs."""
-    return [it for path in files_below(f"{TOP}/crates/{crate}/specs", ".antt") for it in definitions_in(path)]
+def definitions(crate, is_whole=True):
+    """The definitions of a crate's specs: all, or without those of files marked as internal, which no public clause reaches."""
+    paths = files_below(f"{TOP}/crates/{crate}/specs", ".antt")
+    return [it for path in paths if is_whole or not text_of(path).startswith("-- Internal") for it in definitions_in(path)]
 
 
 # Sums.
@@ -184,8 +187,9 @@ def named_below(crate):
     """The definitions and types of the crates below that the statements name, and those that these name in turn."""
     known = {}
     for library in crates_below(crate):
-        for name, text in [*sources(library), *definitions(library)]:
-            if " fn " not in text[: text.find("(")]:
+        for name, text in [*sources(library), *definitions(library, is_whole=False)]:
+            # (what a type keeps of its private fields is a body to the crates above)
+            if " fn " not in text[: text.find("(")] and " ghost invariant " not in text:
                 known.setdefault(name, []).append(f"{library} {name} = {text}")
     found, new = set(), set(WORD.findall("\n".join(statements(crate))))
     while new:

@@ -1,4 +1,5 @@
 """A book of the library beside a store of the model in tests/rules.py: what both report, and the calls that both make."""
+import coded
 import harness
 import image_text
 import library
@@ -48,6 +49,25 @@ def stripe_in_model(store, stripe):
     return store.stripes[stripe].name, words, store.missing(stripe), seats, leases
 
 
+def compare_recipe(book, store, key):
+    """The recipe of a fragment: there is one exactly if it has a live lease and what is not missing determines it, and it is one by
+    the rules."""
+    try:
+        recipe = book.recipe(*key)
+    except lrc_embed.Fault as fault:
+        recipe = fault.status
+    if key not in store.leases:
+        expect(f"the recipe of {key} without a lease", recipe, None)
+        return
+    code, missing = store.stripes[key[0]], store.missing(key[0])
+    if not coded.is_known(code, missing, key[1]):
+        expect(f"the recipe of {key}, which nothing determines", recipe, lrc_embed.Status.UNDETERMINED)
+        return
+    named = recipe.code, recipe.fragment, bytes(recipe.reserved)
+    expect(f"what the recipe of {key} is for", named, (book.code(key[0]).value, key[1], bytes(6)))
+    expect(f"the recipe of {key}, {recipe.sources()}", coded.fault_of(code, missing, key[1], recipe.sources()), None)
+
+
 def expect(name, found, right):
     if found != right:
         raise Differs(f"{name}: {found}, and not {right}")
@@ -69,6 +89,8 @@ def compare(book, store, count):
     expect("clock", book.clock(), store.clock)
     for stripe in range(STRIPES + 1):
         expect(f"stripe {stripe}", stripe_in_book(book, stripe), stripe_in_model(store, stripe))
+    for key in [*store.leases, (count % STRIPES, count % lrc_embed.FRAGMENTS)]:
+        compare_recipe(book, store, key)
     expect("loads", list(library.load_rows(book, store.nodes)), list(store.load_rows()))
     expect("risk", list(library.risk_rows(book)), list(store.risk_rows()))
     expect("image", image_in_book(book), None if store.is_spent(count) else store.image(count))

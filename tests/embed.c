@@ -99,8 +99,9 @@ typedef struct {
     lrc_mode modes[NODES];
     lrc_risk rows[STRIPES], first;
     lrc_repair_plan plans[STRIPES][LRC_FRAGMENTS];
+    lrc_recipe recipes[STRIPES][LRC_FRAGMENTS];
     uint8_t downs[NODES], upgrading;
-    uint32_t statuses[6 + ENTRIES + STRIPES * (4 + 2 * LRC_FRAGMENTS) + NODES * 3];
+    uint32_t statuses[6 + ENTRIES + STRIPES * (4 + 3 * LRC_FRAGMENTS) + NODES * 3];
 } looks_of_book;
 
 // The rows of all walks.
@@ -163,6 +164,7 @@ static void look(looks_of_book *it) {
         for (uint8_t fragment = 0; fragment < LRC_FRAGMENTS; fragment++) {
             *status++ = lrc_embed_lease(&handle, stripe, fragment, &it->leases[stripe][fragment]);
             *status++ = lrc_embed_repair(&handle, stripe, fragment, &it->plans[stripe][fragment]);
+            *status++ = lrc_embed_recipe(&handle, stripe, fragment, &it->recipes[stripe][fragment]);
         }
     }
     for (uint16_t node = 0; node < NODES; node++) {
@@ -304,6 +306,7 @@ static void closed(void) {
         lrc_lease leases[2];
         lrc_fragment fragments[2];
         lrc_outlook outlooks[2];
+        lrc_recipe recipe;
         size_t number;
         uint64_t wide;
         uint8_t text[2];
@@ -331,6 +334,8 @@ static void closed(void) {
     WANT(lrc_embed_call_at(&handle, 1, 9, &command, &found.reply) == LRC_OUT_OF_RANGE);
     WANT(lrc_embed_repair(&handle, 1, 1, &found.plan) == LRC_IS_CLOSED);
     WANT(lrc_embed_repair(&handle, 1, LRC_FRAGMENTS, &found.plan) == LRC_OUT_OF_RANGE);
+    WANT(lrc_embed_recipe(&handle, 1, 1, &found.recipe) == LRC_IS_CLOSED);
+    WANT(lrc_embed_recipe(&handle, LRC_STRIPES, 1, &found.recipe) == LRC_OUT_OF_RANGE);
     WANT(lrc_embed_is_down(&handle, 1, &found.code) == LRC_IS_CLOSED);
     WANT(lrc_embed_upgrading(&handle, &found.code) == LRC_IS_CLOSED);
     WANT(lrc_embed_first_risk(&handle, found.rows) == LRC_IS_CLOSED);
@@ -392,6 +397,10 @@ static void ranges(void) {
     WANT(lrc_embed_repair(&handle, 1, LRC_FRAGMENTS, &plan) == LRC_OUT_OF_RANGE && plan.repair == 99);
     WANT(lrc_embed_repair(&handle, LRC_STRIPES, 1, &plan) == LRC_OUT_OF_RANGE && plan.repair == 99);
     WANT(lrc_embed_repair(&handle, 1, 1, &plan) == LRC_UNKNOWN && plan.repair == 99);
+    lrc_recipe recipe = {.code = 99};
+    WANT(lrc_embed_recipe(&handle, 1, LRC_FRAGMENTS, &recipe) == LRC_OUT_OF_RANGE && recipe.code == 99);
+    WANT(lrc_embed_recipe(&handle, LRC_STRIPES, 1, &recipe) == LRC_OUT_OF_RANGE && recipe.code == 99);
+    WANT(lrc_embed_recipe(&handle, 1, 1, &recipe) == LRC_UNKNOWN && recipe.code == 99);
 }
 
 static void leases(void) {
@@ -408,6 +417,9 @@ static void leases(void) {
     lrc_repair_plan plan = {.repair = 99, .reserved = 99};
     WANT(lrc_embed_repair(&handle, 1, 3, &plan) == LRC_DONE && plan.repair == LRC_LOCAL && plan.reserved == 0);
     WANT(memcmp(plan.sources, reply.sources, sizeof plan.sources) == 0);
+    lrc_recipe recipe = {.code = 99};
+    WANT(lrc_embed_recipe(&handle, 1, 3, &recipe) == LRC_DONE && recipe.code == LRC_WIDE && recipe.fragment == 3);
+    for (unsigned f = 0; f < LRC_FRAGMENTS; f++) WANT(recipe.coefficients[f] == (f != 3 && (f < 6 || f == 12)));
     WANT(is_refused(MAKE(1, .kind = LRC_LEASE, .stripe = 1, .fragment = 3), LRC_ALREADY_LEASED, 1));
     WANT(is_refused(MAKE(1, .kind = LRC_ABANDON, .stripe = 1, .fragment = 3, .epoch = 1), LRC_NOT_HOLDER, 2));
     WANT(MAKE(2, .kind = LRC_ABANDON, .stripe = 1, .fragment = 3, .epoch = 1).kind == LRC_ENDED);
@@ -724,8 +736,8 @@ static uint32_t refusal_name(uint32_t refusal, uint8_t *text, size_t room, size_
 static void names(void) {
     static const char *const statuses[] = {
         "done", "closed handle", "open handle", "out of range", "unknown", "full", "out of memory", "short buffer",
-        "different reply", "moved", "forgotten", 0, 0, 0, 0, 0, "not TOML", "no nodes", "bad field", "node out of range",
-        "double node", "too many nodes", "bad line", "invalid image", 0};
+        "different reply", "moved", "forgotten", "not determined", "miscounted buffers", "uneven buffers", 0, 0, "not TOML",
+        "no nodes", "bad field", "node out of range", "double node", "too many nodes", "bad line", "invalid image", 0};
     static const char *const replies[] = {0, "placed", "dropped", "granted", "idle", "ended", "changed", "refused",
                                           "ticked", "placed", 0};
     static const char *const refusals[] = {
@@ -738,6 +750,110 @@ static void names(void) {
     has_name(lrc_embed_status_name, UINT32_MAX, 0);
     has_name(reply_name, 255, 0);
     has_name(refusal_name, 255, 0);
+}
+
+// Whether a recipe reads a fragment with this coefficient.
+static bool reads(const lrc_recipe *recipe, unsigned fragment, uint8_t coefficient) {
+    return recipe->coefficients[fragment] == coefficient;
+}
+
+// Recipes and matrices without a book. That of docs/RULES.md rebuilds fragment 0 of a wide stripe that misses 0 and 1.
+static void recipes(void) {
+    static const uint8_t shown[LRC_FRAGMENTS] = {0, 0, 244, 2, 246, 247, 251, 235, 16, 203, 48, 32, 245, 0, 244, 0};
+    static const uint8_t factors[12] = {1, 2, 3, 4, 5, 6, 16, 32, 48, 64, 80, 96};
+    lrc_recipe recipe = {.code = 99};
+    uint8_t rows[200];
+    size_t length = 99;
+    WANT(lrc_embed_recipe_of(0, 0, 0, &recipe) == LRC_OUT_OF_RANGE && lrc_embed_recipe_of(3, 0, 0, &recipe) == LRC_OUT_OF_RANGE);
+    WANT(lrc_embed_recipe_of(LRC_WIDE, 0, 16, &recipe) == LRC_OUT_OF_RANGE);
+    WANT(lrc_embed_recipe_of(LRC_NARROW, 0, 10, &recipe) == LRC_OUT_OF_RANGE);
+    WANT(lrc_embed_recipe_of(LRC_WIDE, 0x47, 0, &recipe) == LRC_DONE && recipe.code == LRC_WIDE);
+    recipe.code = 99;
+    WANT(lrc_embed_recipe_of(LRC_NARROW, 0x47, 0, &recipe) == LRC_UNDETERMINED && recipe.code == 99);
+    WANT(lrc_embed_recipe_of(LRC_WIDE, 3, 0, &recipe) == LRC_DONE && recipe.fragment == 0);
+    WANT(memcmp(recipe.coefficients, shown, sizeof shown) == 0);
+    WANT(lrc_embed_recipe_of(LRC_NARROW, 0xfc01, 0, &recipe) == LRC_DONE && recipe.code == LRC_NARROW);
+    WANT(reads(&recipe, 0, 0) && reads(&recipe, 1, 1) && reads(&recipe, 2, 1) && reads(&recipe, 3, 0) && reads(&recipe, 6, 1));
+    WANT(lrc_embed_recipe_of(LRC_WIDE, 3, 7, &recipe) == LRC_DONE && recipe.fragment == 7);
+    for (unsigned f = 0; f < LRC_FRAGMENTS; f++) WANT(reads(&recipe, f, f == 7));
+    memset(rows, '#', sizeof rows);
+    WANT(lrc_embed_matrix(0, rows, sizeof rows, &length) == LRC_OUT_OF_RANGE && length == 99 && rows[0] == '#');
+    WANT(lrc_embed_matrix(LRC_WIDE, rows, 191, &length) == LRC_SHORT && length == 192 && rows[0] == '#');
+    WANT(lrc_embed_matrix(LRC_NARROW, 0, 0, &length) == LRC_SHORT && length == 60);
+    WANT(lrc_embed_matrix(LRC_WIDE, rows, 192, &length) == LRC_DONE && length == 192 && rows[192] == '#');
+    WANT(memcmp(&rows[14 * 12], factors, sizeof factors) == 0 && rows[0] == 1 && rows[1] == 0 && rows[13] == 1);
+}
+
+#define LONG 100
+// The bytes of a stripe: those of the data are counted up, the others are not made yet.
+static uint8_t bytes[LRC_FRAGMENTS][LONG];
+static lrc_bytes fragments[LRC_FRAGMENTS];
+static lrc_buffer parities[5];
+
+static void begin_stripe(unsigned data_count) {
+    memset(bytes, '#', sizeof bytes);
+    for (unsigned f = 0; f < LRC_FRAGMENTS; f++) {
+        fragments[f] = (lrc_bytes){bytes[f], LONG};
+        for (unsigned i = 0; f < data_count && i < LONG; i++) bytes[f][i] = (uint8_t)(f * 37 + i * i);
+    }
+    for (unsigned j = 0; j < 5; j++) parities[j] = (lrc_buffer){bytes[(data_count + j) % LRC_FRAGMENTS], LONG};
+}
+
+// Nothing has been written behind the data.
+static bool is_begun(unsigned data_count) {
+    for (unsigned f = data_count; f < LRC_FRAGMENTS; f++)
+        for (unsigned i = 0; i < LONG; i++)
+            if (bytes[f][i] != '#') return false;
+    return true;
+}
+
+// The parities of a stripe of a code, and each fragment rebuilt from others; and all that is refused.
+static void code_stripes(uint8_t code, unsigned data_count) {
+    uint8_t rebuilt[LONG + 1];
+    lrc_recipe recipe = {0};
+    begin_stripe(data_count);
+    WANT(lrc_embed_encode(0, fragments, data_count, parities, 4) == LRC_OUT_OF_RANGE);
+    WANT(lrc_embed_encode(code, fragments, data_count - 1, parities, 4) == LRC_MISCOUNTED);
+    WANT(lrc_embed_encode(code, fragments, data_count, parities, 5) == LRC_MISCOUNTED);
+    WANT(lrc_embed_encode(code, 0, 0, 0, 0) == LRC_MISCOUNTED);
+    fragments[data_count - 1].length = LONG - 1;
+    WANT(lrc_embed_encode(code, fragments, data_count, parities, 4) == LRC_UNEVEN);
+    begin_stripe(data_count);
+    parities[3].length = LONG - 1;
+    WANT(lrc_embed_encode(code, fragments, data_count, parities, 4) == LRC_UNEVEN && is_begun(data_count));
+    begin_stripe(data_count);
+    for (unsigned j = 0; j < 4; j++) parities[j].length = LONG - 1;
+    for (unsigned f = 0; f < data_count; f++) fragments[f].length = LONG - 1;
+    WANT(lrc_embed_encode(code, fragments, data_count, parities, 4) == LRC_DONE);
+    for (unsigned f = data_count; f < data_count + 4; f++) WANT(bytes[f][LONG - 1] == '#');
+    begin_stripe(data_count);
+    WANT(lrc_embed_encode(code, fragments, data_count, parities, 4) == LRC_DONE);
+    for (unsigned j = 0; j < 4; j++) WANT(parities[j].at == bytes[data_count + j] && parities[j].length == LONG);
+    for (unsigned i = 0; i < LONG; i++) {
+        uint8_t sum = 0;
+        for (unsigned f = 0; f < data_count / 2; f++) sum ^= bytes[f][i];
+        WANT(bytes[data_count][i] == sum);
+    }
+    for (uint8_t f = 0; f < data_count + 4; f++)
+        for (unsigned more = 0; more < 16; more++) { // (with up to four others of the first missing, where that can be)
+            uint16_t missing = (uint16_t)(1u << f | more);
+            if (lrc_embed_recipe_of(code, missing, f, &recipe) != LRC_DONE) continue;
+            lrc_bytes given[LRC_FRAGMENTS];
+            for (unsigned g = 0; g < LRC_FRAGMENTS; g++) given[g] = missing >> g & 1 ? (lrc_bytes){0, 0} : fragments[g];
+            memset(rebuilt, '#', sizeof rebuilt);
+            WANT(lrc_embed_rebuild(&recipe, given, data_count + 4, rebuilt, LONG) == LRC_DONE);
+            WANT(memcmp(rebuilt, bytes[f], LONG) == 0 && rebuilt[LONG] == '#');
+        }
+    memset(rebuilt, '#', sizeof rebuilt);
+    WANT(lrc_embed_recipe_of(code, 1, 0, &recipe) == LRC_DONE);
+    WANT(lrc_embed_rebuild(&recipe, fragments, data_count + 3, rebuilt, LONG) == LRC_MISCOUNTED);
+    fragments[1].length = 0;
+    WANT(lrc_embed_rebuild(&recipe, fragments, data_count + 4, rebuilt, LONG) == LRC_UNEVEN && rebuilt[0] == '#');
+    fragments[1].length = LONG, recipe.code = 0;
+    WANT(lrc_embed_rebuild(&recipe, fragments, data_count + 4, rebuilt, LONG) == LRC_OUT_OF_RANGE && rebuilt[0] == '#');
+    for (unsigned g = 0; g < LRC_FRAGMENTS; g++) fragments[g] = (lrc_bytes){0, 0};
+    recipe.code = code;
+    WANT(lrc_embed_rebuild(&recipe, fragments, data_count + 4, 0, 0) == LRC_DONE);
 }
 
 static bool has_code(uint16_t stripe, uint8_t code) {
@@ -1146,6 +1262,9 @@ int main(int argc, char **argv) {
     forecasts();
     call_at_place();
     names();
+    recipes();
+    code_stripes(LRC_WIDE, 12);
+    code_stripes(LRC_NARROW, 6);
     WANT(MAKE(1, .kind = LRC_DROP, .stripe = 2).kind == LRC_DROPPED);
     narrow();
     replays();

@@ -9,7 +9,7 @@ from itertools import islice
 from harness import nodes_in_order, topology_of
 from library import command_of
 from lrc_embed import (RULES_VERSION, VERSION, Book, Cause, Code, Command, CommandKind, Entry, Fault, ModeKind, OtherVersion,
-                       Outage, Status, name_of, rules_version)
+                       Outage, Status, encode, matrix, name_of, recipe_of, rules_version)
 
 TWENTY = topology_of(nodes_in_order(20, 4))
 SCRIPT = ("place 1", "place 2", "fail 3", "next", "lease 2 7", "done 1 3 1", "next", "upgrade 0", "upgraded 0")
@@ -20,6 +20,7 @@ SAVED = struct.Struct("<B3x BBB5xIHH BBB6s3xIII4x HBBHHI4x 32H")
 RANGES = {"session": (1, 8), "kind": (1, 18), "stripe": (0, 4095), "fragment": (0, 15), "node": (0, 65535),
           "domain": (0, 255), "epoch": (0, 4294967295), "index": (0, 18446744073709551615),
           "place": (0, 18446744073709551615), "outage": (1, 2),
+          "code": (1, 2), "set of fragments": (0, 65535),
           "status number": (0, 4294967295), "reply number": (0, 255), "refusal number": (0, 255)}
 
 
@@ -44,8 +45,9 @@ def ways_of(book):
                     lambda n: setattr(entry, "session", n), lambda n: book.peek(n, Command(CommandKind.NEXT))],
         "kind": [Command, lambda n: setattr(command, "kind", n)],
         "stripe": [*made_of(CommandKind.PLACE, "stripe"), book.homes, book.level, book.missing, book.code,
-                   lambda n: book.lease(n, 0), lambda n: book.repair(n, 0)],
-        "fragment": [*made_of(CommandKind.LEASE, "fragment"), lambda n: book.lease(0, n), lambda n: book.repair(0, n)],
+                   lambda n: book.lease(n, 0), lambda n: book.repair(n, 0), lambda n: book.recipe(n, 0)],
+        "fragment": [*made_of(CommandKind.LEASE, "fragment"), lambda n: book.lease(0, n), lambda n: book.repair(0, n),
+                     lambda n: book.recipe(0, n), lambda n: done_or_fault(lambda: recipe_of(book.library, Code.NARROW, 0, n))],
         "node": [*made_of(CommandKind.FAIL, "node"), book.load, book.mode, book.is_down,
                  lambda n: done_or_fault(lambda: list(book.homes_on(n))),
                  lambda n: done_or_fault(lambda: book.forecast(Outage.STOP, [n]))],
@@ -55,6 +57,9 @@ def ways_of(book):
         "place": [lambda n: done_or_fault(lambda: book.call_at(n, 1, Command(CommandKind.NEXT))),
                   lambda n: list(book.entries(n))],
         "outage": [lambda n: book.forecast(n, [0])],
+        "code": [lambda n: recipe_of(book.library, n, 0, 0), lambda n: matrix(book.library, n),
+                 lambda n: done_or_fault(lambda: encode(book.library, n, []))],
+        "set of fragments": [lambda n: recipe_of(book.library, Code.WIDE, n, 0)],
         **{f"{table} number": [lambda n, table=table: name_of(book.library, table, n)] for table in ("status", "reply", "refusal")},
     }
 

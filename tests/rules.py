@@ -81,6 +81,9 @@ class Code:
         self.fragments = list(members(self.all))
         self.class_of = {fragment: of_class for of_class in classes for fragment in members(of_class)}
 
+    def __reduce__(self):
+        return self.name.upper()  # (a copy of a store has the same two codes)
+
 
 WIDE = Code("wide", set_of([0, 1, 2, 3, 4, 5, 12]), set_of([6, 7, 8, 9, 10, 11, 13]), set_of([14, 15]))
 NARROW = Code("narrow", set_of([0, 1, 2, 6]), set_of([3, 4, 5, 7]), set_of([8, 9]))
@@ -144,8 +147,11 @@ class Store:
     def nodes_in(self, mode):
         return [node for node in self.nodes if self.mode[node] == mode]
 
+    def is_away(self, node):
+        return self.mode[node] == "gone" or node in self.down
+
     def is_online(self, node):
-        return self.mode[node] != "gone" and node not in self.down and self.nodes[node].upgrade != self.upgrading
+        return not self.is_away(node) and self.nodes[node].upgrade != self.upgrading
 
     def is_eligible(self, node, load):
         """Whether a node with this load takes a fragment."""
@@ -217,6 +223,10 @@ class Store:
 
     def can_recover(self, stripe):
         return is_recoverable(self.stripes[stripe], self.missing(stripe))
+
+    def beyond_recovery(self):
+        """The set of stripes that cannot be recovered."""
+        return set_of(stripe for stripe in self.stripes if not self.can_recover(stripe))
 
     def margin(self, stripe):
         return margin(self.stripes[stripe], self.missing(stripe))
@@ -497,12 +507,12 @@ class Store:
         self.expect_domain(domain)
         if self.upgrading is not None:
             raise Refused(107, self.upgrading)
-        recoverable = [stripe for stripe in sorted(self.stripes) if self.can_recover(stripe)]
+        before = self.beyond_recovery()
         self.set_upgrading(domain)
-        lost = next((stripe for stripe in recoverable if not self.can_recover(stripe)), None)
-        if lost is not None:
+        lost = self.beyond_recovery() & ~before
+        if lost:
             self.set_upgrading(None)
-            raise Refused(109, lost)
+            raise Refused(109, least(lost))
         return "changed"
 
     def do_upgraded(self, session, domain):

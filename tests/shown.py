@@ -3,6 +3,7 @@ import copy
 from collections import Counter
 
 import rules
+from coding import read_for
 from rules import FRAGMENTS, members
 
 VIEWS = ("status", "stripes", "nodes", "leases", "work")
@@ -12,7 +13,7 @@ HEADS = {
     "stripes": ["stripe", "code", "level", "margin", "missing", "missing_fragments", "homeless", "homeless_fragments", *HOMES],
     "nodes": ["node", "fault", "upgrade", "mode", "down", "upgrading", "online", "homes", "targets", "load", "slots"],
     "leases": ["stripe", "fragment", "holder", "target", "epoch", "expiry"],
-    "work": ["stripe", "fragment", "kind", "sources", "standing", "holder", "epoch"],
+    "work": ["stripe", "fragment", "kind", "sources", "reads", "standing", "holder", "epoch"],
 }
 
 REPORTS = {"may-stop": "down", "may-lose": "fail"}
@@ -76,13 +77,21 @@ def standing(store, key):
     return ["open", "", ""]
 
 
+def reads(store, key, kind):
+    """How many fragments are read to move or rebuild a fragment; nothing where what is not missing does not determine it."""
+    if kind == "move":
+        return 1
+    sources = read_for(store.stripes[key[0]], store.missing(key[0]), key[1])
+    return "" if sources is None else len(sources)
+
+
 def work_rows(store):
     for stripe in store.in_order():
         for fragment in store.fragments(stripe):
             key = stripe, fragment
             if store.needs_lease(key):
                 kind, *sources = store.kind(key).split(" ")
-                yield [*key, kind, " ".join(sources), *standing(store, key)]
+                yield [*key, kind, " ".join(sources), reads(store, key, kind), *standing(store, key)]
 
 
 def status_rows(store, entries):

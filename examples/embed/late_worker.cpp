@@ -39,6 +39,35 @@ class Fault : public std::runtime_error {
 inline std::string reply_name(std::uint8_t kind) { return word_for(lrc_embed_reply_name, kind); }
 inline std::string refusal_name(std::uint8_t refusal) { return word_for(lrc_embed_refusal_name, refusal); }
 
+// The bytes of a fragment; none where it is not there.
+using Fragment = std::vector<std::uint8_t>;
+
+inline std::vector<lrc_bytes> bytes_of(const std::vector<Fragment> &fragments) {
+    std::vector<lrc_bytes> bytes;
+    for (const auto &fragment : fragments) bytes.push_back({fragment.data(), fragment.size()});
+    return bytes;
+}
+
+// The four parities of a stripe, of its data fragments in order.
+inline std::vector<Fragment> encode(lrc_code code, const std::vector<Fragment> &data) {
+    std::vector<Fragment> parities(4, Fragment(data.empty() ? 0 : data[0].size()));
+    std::vector<lrc_buffer> buffers;
+    for (auto &parity : parities) buffers.push_back({parity.data(), parity.size()});
+    auto bytes = bytes_of(data);
+    auto status = lrc_embed_encode(std::uint8_t(code), bytes.data(), bytes.size(), buffers.data(), buffers.size());
+    if (status != LRC_DONE) throw Fault("encode", status);
+    return parities;
+}
+
+// The fragment that a recipe rebuilds, of so many bytes. What is not read may be empty.
+inline Fragment rebuild(const lrc_recipe &recipe, const std::vector<Fragment> &fragments, std::size_t length) {
+    Fragment rebuilt(length);
+    auto bytes = bytes_of(fragments);
+    auto status = lrc_embed_rebuild(&recipe, bytes.data(), bytes.size(), rebuilt.data(), rebuilt.size());
+    if (status != LRC_DONE) throw Fault("rebuild", status);
+    return rebuilt;
+}
+
 // The version of the library's rules, which is kept with each log and each image.
 inline std::uint32_t rules_version() { return lrc_embed_rules_version(); }
 
@@ -134,6 +163,11 @@ class Book {
     // How a fragment that needs a lease is rebuilt; none if it needs none.
     std::optional<lrc_repair_plan> repair(std::uint16_t stripe, std::uint8_t fragment) {
         return found<lrc_repair_plan>("repair", lrc_embed_repair, stripe, fragment);
+    }
+    // How the fragment of a live lease is rebuilt from what is not missing now; none if it has no live lease. It throws, with
+    // LRC_UNDETERMINED, if what is not missing does not determine the fragment.
+    std::optional<lrc_recipe> recipe(std::uint16_t stripe, std::uint8_t fragment) {
+        return found<lrc_recipe>("recipe", lrc_embed_recipe, stripe, fragment);
     }
     std::optional<bool> is_down(std::uint16_t node) {
         auto is_down = found<std::uint8_t>("is_down", lrc_embed_is_down, node);
@@ -270,6 +304,18 @@ static std::string twenty_nodes() {
     return text;
 }
 
+// What a worker does under the lease of fragment 3: whether its bytes are rebuilt from the others.
+static bool is_rebuilt(Book &book) {
+    std::vector<Fragment> stripe(12, Fragment(100));
+    for (std::size_t d = 0; d < 12; d++)
+        for (std::size_t i = 0; i < 100; i++) stripe[d][i] = std::uint8_t(i * (d + 3));
+    for (auto &parity : encode(LRC_WIDE, stripe)) stripe.push_back(parity);
+    Fragment lost;
+    std::swap(lost, stripe[3]);
+    auto recipe = book.recipe(1, 3);
+    return recipe && recipe->fragment == 3 && rebuild(*recipe, stripe, lost.size()) == lost;
+}
+
 static int run() {
     const std::vector<lrc_command> script = {
         of_stripe(LRC_PLACE, 1),           of_node(LRC_FAIL, 3),
@@ -283,6 +329,7 @@ static int run() {
     for (const auto &command : script) {
         auto reply = book.call(1, command);
         std::printf("%zu %s\n", book.count(), text_of(reply).c_str());
+        if (reply.kind == LRC_GRANTED && !is_rebuilt(book)) return 1;
     }
     // nothing is left to repair, and a worker that asks by a peek adds no entry
     lrc_command next{};

@@ -3,10 +3,12 @@ use std::ffi::c_void;
 use std::fmt::{self, Display, Formatter};
 use std::process::ExitCode;
 
-const VERSION: u32 = 2;
+const VERSION: u32 = 3;
 const DONE: u32 = 0;
 const DIFFERENT: u32 = 8;
+const GRANTED: u8 = 3;
 const IDLE: u8 = 4;
+const WIDE: u8 = 1;
 const STRIPES: usize = 4096;
 
 #[repr(C)]
@@ -97,6 +99,29 @@ struct Risk {
     level: Level,
 }
 
+/// How a fragment is rebuilt: the sum of the stripe's fragments, each times its coefficient.
+#[repr(C)]
+#[derive(Clone, Copy, Default)]
+struct Recipe {
+    code: u8,
+    fragment: u8,
+    reserved: [u8; 6],
+    coefficients: [u8; 16],
+}
+
+/// Bytes that are read, and bytes that are written.
+#[repr(C)]
+struct Bytes {
+    at: *const u8,
+    length: usize,
+}
+
+#[repr(C)]
+struct Buffer {
+    at: *mut u8,
+    length: usize,
+}
+
 unsafe extern "C" {
     safe fn lrc_embed_version() -> u32;
     safe fn lrc_embed_rules_version() -> u32;
@@ -107,6 +132,9 @@ unsafe extern "C" {
     fn lrc_embed_risk(handle: &mut Handle, rows: *mut Risk, length: usize, count: &mut usize) -> u32;
     fn lrc_embed_count(handle: &mut Handle, count: &mut usize) -> u32;
     fn lrc_embed_entry(handle: &mut Handle, index: usize, entry: &mut Entry) -> u32;
+    fn lrc_embed_recipe(handle: &mut Handle, stripe: u16, fragment: u8, recipe: &mut Recipe) -> u32;
+    fn lrc_embed_encode(code: u8, data: *const Bytes, data_count: usize, parities: *mut Buffer, parities_count: usize) -> u32;
+    fn lrc_embed_rebuild(recipe: &Recipe, fragments: *const Bytes, count: usize, rebuilt: *mut u8, length: usize) -> u32;
     fn lrc_embed_close(handle: &mut Handle) -> u32;
 }
 
@@ -193,6 +221,13 @@ impl Book {
         done(unsafe { lrc_embed_entry(&mut self.0, index, &mut entry) }, 0).map(|()| entry)
     }
 
+    /// How the fragment of a live lease is rebuilt from what is not missing now.
+    fn recipe(&mut self, stripe: u16, fragment: u8) -> Result<Recipe, Fault> {
+        let mut recipe = Recipe::default();
+        // SAFETY: as above.
+        done(unsafe { lrc_embed_recipe(&mut self.0, stripe, fragment, &mut recipe) }, 0).map(|()| recipe)
+    }
+
     fn risk(&mut self) -> Result<Vec<Risk>, Fault> {
         let mut rows = vec![Risk::default(); STRIPES];
         let mut count = 0;
@@ -201,6 +236,30 @@ impl Book {
         rows.truncate(count);
         Ok(rows)
     }
+}
+
+/// Buffers as C takes them.
+fn bytes_of(buffers: &[Vec<u8>]) -> Vec<Bytes> {
+    buffers.iter().map(|buffer| Bytes { at: buffer.as_ptr(), length: buffer.len() }).collect()
+}
+
+/// The four parities of a stripe, of its data fragments in order.
+fn encode(code: u8, data: &[Vec<u8>]) -> Result<Vec<Vec<u8>>, Fault> {
+    let read = bytes_of(data);
+    let mut parities = vec![vec![0; data[0].len()]; 4];
+    let mut written: Vec<Buffer> = parities.iter_mut().map(|it| Buffer { at: it.as_mut_ptr(), length: it.len() }).collect();
+    // SAFETY: each pointer and length are those of one slice, and no two of those that are written overlap.
+    let status = unsafe { lrc_embed_encode(code, read.as_ptr(), read.len(), written.as_mut_ptr(), written.len()) };
+    done(status, 0).map(|()| parities)
+}
+
+/// The fragment that a recipe rebuilds, of so many bytes. What is not read may be empty.
+fn rebuild(recipe: &Recipe, fragments: &[Vec<u8>], length: usize) -> Result<Vec<u8>, Fault> {
+    let read = bytes_of(fragments);
+    let mut rebuilt = vec![0; length];
+    // SAFETY: as above.
+    let status = unsafe { lrc_embed_rebuild(recipe, read.as_ptr(), read.len(), rebuilt.as_mut_ptr(), length) };
+    done(status, 0).map(|()| rebuilt)
 }
 
 impl Drop for Book {
@@ -253,6 +312,17 @@ fn main() -> ExitCode {
     }
 }
 
+/// What a worker does under the lease of fragment 3: its bytes are rebuilt from the others.
+fn expect_rebuilt(book: &mut Book) -> Result<(), Fault> {
+    let data: Vec<Vec<u8>> = (0..12).map(|d: u8| (0..100).map(|i: u8| i.wrapping_mul(d + 3)).collect()).collect();
+    let mut stripe = [data.as_slice(), &encode(WIDE, &data)?].concat();
+    let lost = std::mem::take(&mut stripe[3]);
+    let recipe = book.recipe(1, 3)?;
+    assert_eq!((recipe.code, recipe.fragment), (WIDE, 3));
+    assert_eq!(rebuild(&recipe, &stripe, lost.len())?, lost);
+    Ok(())
+}
+
 fn run() -> Result<(), Fault> {
     let nodes: String = (0..20)
         .map(|i| format!("[[node]]\nnumber = {i}\nfault = {i}\nupgrade = {}\nslots = 4\n", i % 10))
@@ -273,6 +343,9 @@ fn run() -> Result<(), Fault> {
     for command in &script {
         let reply = book.call(1, command)?;
         println!("{} {reply}", book.count()?);
+        if reply.kind == GRANTED {
+            expect_rebuilt(&mut book)?;
+        }
     }
     // nothing is left to repair, and a worker that asks by a peek adds no entry
     let next = Command { kind: Kind::Next as u8, ..Command::default() };

@@ -5,13 +5,13 @@ from ctypes import c_bool, c_size_t, c_uint8, c_uint16, c_uint32, c_uint64, c_vo
 from enum import IntEnum
 from operator import index as whole
 
-VERSION, RULES_VERSION, STRIPES, FRAGMENTS, NARROW_FRAGMENTS, SESSIONS, HISTORY_LIMIT = 2, 1, 4096, 16, 10, 8, 1_000_000
+VERSION, RULES_VERSION, STRIPES, FRAGMENTS, NARROW_FRAGMENTS, SESSIONS, HISTORY_LIMIT = 3, 1, 4096, 16, 10, 8, 1_000_000
 NODES, SLOTS = 512, 256
 
 
 class Status(IntEnum):
     DONE, IS_CLOSED, IS_OPEN, OUT_OF_RANGE, UNKNOWN, FULL, OUT_OF_MEMORY, SHORT = range(8)
-    DIFFERENT, MOVED, FORGOTTEN = range(8, 11)
+    DIFFERENT, MOVED, FORGOTTEN, UNDETERMINED, MISCOUNTED, UNEVEN = range(8, 14)
     SYNTAX, NO_NODES, BAD_FIELD, NODE_OUT_OF_RANGE, DOUBLE_NODE, TOO_MANY, BAD_LINE, INVALID_IMAGE = range(16, 24)
 
 
@@ -70,6 +70,7 @@ SOURCES = {Repair.LOCAL: 6, Repair.LOCAL3: 3}
 RANGES = {"session": (1, SESSIONS), "kind": (1, len(CommandKind)), "stripe": (0, STRIPES - 1),
           "fragment": (0, FRAGMENTS - 1), "node": (0, 2**16 - 1), "domain": (0, 2**8 - 1), "epoch": (0, 2**32 - 1),
           "index": (0, 2**64 - 1), "place": (0, 2**64 - 1), "outage": (1, len(Outage)),
+          "code": (1, len(Code)), "set of fragments": (0, 2**FRAGMENTS - 1),
           "status number": (0, 2**32 - 1), "reply number": (0, 2**8 - 1), "refusal number": (0, 2**8 - 1)}
 
 
@@ -187,6 +188,24 @@ class Outlook(ctypes.Structure):
                 ("after", Level)]
 
 
+class Recipe(ctypes.Structure):
+    """How a fragment is rebuilt: the sum of the stripe's fragments, each times its coefficient."""
+
+    _fields_ = [("code", c_uint8), ("fragment", c_uint8), ("reserved", c_uint8 * 6), ("coefficients", c_uint8 * FRAGMENTS)]
+
+    def sources(self):
+        """The coefficients of the fragments that are read, by fragment."""
+        return {fragment: coefficient for fragment, coefficient in enumerate(self.coefficients) if coefficient}
+
+
+class Bytes(ctypes.Structure):
+    _fields_ = [("at", c_void_p), ("length", c_size_t)]
+
+
+class Buffer(ctypes.Structure):
+    _fields_ = [("at", c_void_p), ("length", c_size_t)]
+
+
 def behind(_, row):
     """The place after a fragment."""
     return c_uint16(row.stripe), c_uint8(row.fragment + 1)
@@ -213,6 +232,55 @@ def name_of(library, table, number):
     call, number = getattr(library, f"lrc_embed_{table}_name"), within(f"{table} number", number)
     status = (call((c_uint32 if table == "status" else c_uint8)(number), text, c_size_t(len(text)), ctypes.byref(length)))
     return bytes(text[:length.value]).decode() if status == Status.DONE else None
+
+
+def recipe_of(library, code, missing, fragment):
+    """The recipe of a fragment of a stripe where a set of fragments is missing. None if what is not missing does not determine
+    the fragment."""
+    recipe = Recipe()
+    numbers = c_uint8(within("code", code)), c_uint16(within("set of fragments", missing)), c_uint8(within("fragment", fragment))
+    status = library.lrc_embed_recipe_of(*numbers, ctypes.byref(recipe))
+    if status not in (Status.DONE, Status.UNDETERMINED):
+        raise Fault("recipe_of", status)
+    return recipe if status == Status.DONE else None
+
+
+def matrix(library, code):
+    """The generator matrix of a code: the row of each fragment."""
+    rows, length = (c_uint8 * (FRAGMENTS * 12))(), c_size_t()
+    status = library.lrc_embed_matrix(c_uint8(within("code", code)), rows, c_size_t(len(rows)), ctypes.byref(length))
+    if status != Status.DONE:
+        raise Fault("matrix", status)
+    width = 12 if code == Code.WIDE else 6
+    return [bytes(rows[at:at + width]) for at in range(0, length.value, width)]
+
+
+def buffers_of(kind, buffers):
+    """Buffers as C takes them, and what keeps them where they are."""
+    kept = [(c_uint8 * len(data)).from_buffer_copy(data) for data in buffers]
+    return (kind * len(kept))(*(kind(ctypes.addressof(data), len(data)) for data in kept)), kept
+
+
+def encode(library, code, data):
+    """The four parities of a stripe, of its data fragments in order."""
+    read, kept = buffers_of(Bytes, data)
+    written, parities = buffers_of(Buffer, [bytes(len(data[0]) if data else 0)] * 4)
+    status = library.lrc_embed_encode(c_uint8(within("code", code)), read, c_size_t(len(kept)), written, c_size_t(4))
+    if status != Status.DONE:
+        raise Fault("encode", status)
+    return [bytes(parity) for parity in parities]
+
+
+def rebuild(library, recipe, fragments):
+    """The bytes of the fragment that a recipe rebuilds. `fragments` has the stripe's fragments by number, and None or nothing for
+    those that are not read."""
+    read, kept = buffers_of(Bytes, [data or b"" for data in fragments])
+    length = max((len(fragments[source] or b"") for source in recipe.sources() if source < len(kept)), default=0)
+    rebuilt = (c_uint8 * length)()
+    status = library.lrc_embed_rebuild(ctypes.byref(recipe), read, c_size_t(len(kept)), rebuilt, c_size_t(length))
+    if status != Status.DONE:
+        raise Fault("rebuild", status)
+    return bytes(rebuilt)
 
 
 class OtherVersion(RuntimeError):
@@ -320,6 +388,12 @@ class Book:
         """How a fragment that needs a lease is rebuilt; None if it needs none."""
         numbers = c_uint16(within("stripe", stripe)), c_uint8(within("fragment", fragment))
         return self.result_of("repair", RepairPlan(), *numbers)
+
+    def recipe(self, stripe, fragment):
+        """How the fragment of a live lease is rebuilt from what is not missing now; None if it has no live lease. If what is not
+        missing does not determine it, a fault with the status UNDETERMINED."""
+        numbers = c_uint16(within("stripe", stripe)), c_uint8(within("fragment", fragment))
+        return self.result_of("recipe", Recipe(), *numbers)
 
     def load(self, node):
         return self.result_of("load", c_uint32(), c_uint16(within("node", node)))
