@@ -1,308 +1,157 @@
-"""Bundles of one script each, made by a fixed rule from a seed: a kind of load for each way to use a store.
+"""Bundles that are made by a fixed rule from a seed: a kind of load for each way to use a store.
 
 Every bundle fills its store first: `place` of each stripe, and what else its kind needs once. Then its kind goes on until
-the bundle has as many bytes, or as many more lines, as it may have. Each command comes with the beginning of its reply,
-by `store.Store`."""
-import random
-import string
+the bundle has as many bytes, or as many more lines, as it may have. Where a bundle has one script, each command comes with
+the beginning of its reply, by `store.Store`."""
+import pickle
+from collections import Counter, namedtuple
+from functools import lru_cache
 
-from store import Store
-from harness import topology_of
-from rules import FRAGMENTS, MOST_SLOTS, MOST_STRIPES, Node
+import fills
+import kinds
+from fills import fill
+from harness import bundle_of, topology_of
+from rules import MOST_SLOTS, Node
+from scripts import UPGRADES, Full, Part, Script
 
-FAULTS, UPGRADES = 32, 16
-LIVE = 40000  # the leases of `ticks` that are live at once, where there are as many stripes as there can be
-SESSION = 1  # of every call
+FAULTS = 32  # domains
 
-
-class Full(Exception):
-    """The bundle takes no more lines."""
-
-
-class Script:
-    """The lines so far, the beginning of the reply to each command, and the store after them."""
-
-    def __init__(self, nodes, stripes, seed, most_bytes):
-        self.nodes = {number: Node(number % FAULTS, (number // FAULTS + number) % UPGRADES, MOST_SLOTS)
-                      for number in range(nodes)}
-        self.store = Store(self.nodes)
-        self.stripes = stripes
-        self.random = random.Random(seed)
-        self.lines, self.replies = [], []
-        self.head = topology_of(self.nodes) + "%%\n"
-        self.bytes_left = most_bytes - len(self.head)
-        self.lines_left = None  # as many as the bytes allow
-
-    def bundle(self):
-        return self.head + "".join(line + "\n" for line in self.lines)
-
-    def add(self, line):
-        """Adds a line, and no reply: one that is no command is passed over."""
-        self.bytes_left -= len(line) + 1
-        if self.bytes_left < 0 or self.lines_left == 0:
-            raise Full
-        if self.lines_left is not None:
-            self.lines_left -= 1
-        self.lines.append(line)
-
-    def say(self, line, reply):
-        """Adds a command with the beginning of its reply."""
-        self.add(line)
-        self.replies.append(reply)
-
-    def say_all(self, *calls):
-        """Adds commands with the beginnings of their replies, all of them or none."""
-        needed = sum(len(line) + 1 for line, _ in calls)
-        if needed > self.bytes_left or self.lines_left is not None and len(calls) > self.lines_left:
-            raise Full
-        for line, reply in calls:
-            self.say(line, reply)
-
-    def call(self, line):
-        """Adds a command, and returns its reply."""
-        reply = self.store.call(SESSION, line)
-        self.say(line, reply)
-        return reply
-
-    def lease_next(self):
-        """Asks for the next lease, and returns its stripe, fragment and epoch, or None."""
-        words = self.call("next").split(" ")
-        if words[0] != "granted":
-            return None
-        key = int(words[1]), int(words[2])
-        return *key, self.store.grants[key]
-
-    def node(self):
-        return self.random.randrange(len(self.nodes))
-
-    def stripe(self):
-        return self.random.randrange(self.stripes)
-
-
-# What fills a store.
-
-
-def fill(script):
-    for stripe in range(script.stripes):
-        script.call(f"place {stripe}")
-
-
-def fill_both(script):
-    """Every other stripe is of the narrow code."""
-    for stripe in range(script.stripes):
-        script.call(f"{'place6' if stripe % 2 else 'place'} {stripe}")
-
-
-def fill_for_moves(script):
-    """Three nodes of eight are gone meanwhile and join empty, so that there is room for all that two nodes of five hold,
-    which are drained. But twenty nodes are there all the time, or a stripe would find none."""
-    nodes = len(script.nodes)
-    away = range(max(nodes - nodes * 3 // 8, min(nodes, 20)), nodes)
-    for node in away:
-        script.call(f"fail {node}")
-    fill(script)
-    for node in away:
-        script.call(f"join {node}")
-    for node in range(-(-nodes * 2 // 5)):
-        script.call(f"drain {node}")
-
-
-# The kinds. Each goes on until the script is full.
-
-
-def place(script):
-    """The stripes are placed, and nothing else."""
-
-
-def churn(script):
-    """A stripe is dropped and placed again, in turn."""
-    while True:
-        stripe = script.stripe()
-        script.say(f"drop {stripe}", "dropped")
-        script.say(f"place {stripe}", "placed")
-
-
-def repair_all(script):
-    """Each fragment that needs a lease is leased and reported, one after the other."""
-    while lease := script.lease_next():
-        script.call("done %d %d %d" % lease)
-
-
-def repairs(script):
-    """A node fails; what it held is leased and reported, one after the other; it joins again."""
-    while True:
-        node = script.node()
-        script.call(f"fail {node}")
-        repair_all(script)
-        script.call(f"join {node}")
-
-
-def leases(script):
-    """Nodes fail; all that they held is leased before some is reported, given up or taken back, in any order."""
-    while True:
-        nodes = script.random.sample(range(len(script.nodes)), 3)
-        for node in nodes:
-            script.call(f"fail {node}")
-        while live := list(iter(script.lease_next, None)):
-            script.random.shuffle(live)
-            for stripe, fragment, epoch in live:
-                word = script.random.choices(["done", "abandon", "revoke"], [8, 1, 1])[0]
-                script.call(f"{word} {stripe} {fragment}" + (f" {epoch}" if word != "revoke" else ""))
-        for node in nodes:
-            script.call(f"join {node}")
-
-
-def ticks(script):
-    """Fragments on nodes that drain are leased, and nothing is reported: before each tick a third of as many as are live at
-    once, so that each tick from the third on ends a third."""
-    third = LIVE * script.stripes // MOST_STRIPES // 3 + 1
-    while True:
-        for _ in range(third):
-            if not script.lease_next():
-                break
-        script.call("tick")
-
-
-def drains(script):
-    """A node is drained: what it holds is moved, one after the other; then it is retired, and joins again."""
-    while True:
-        node = script.node()
-        script.call(f"drain {node}")
-        repair_all(script)
-        script.call(f"retire {node}")
-        script.call(f"join {node}")
-
-
-def flaps(script):
-    """Nodes go down and come up, a few at a time."""
-    down = []
-    while True:
-        if len(down) > len(script.nodes) // 64 or down and script.random.random() < 0.5:
-            node = down.pop(script.random.randrange(len(down)))
-            script.say(f"up {node}", "changed")
-        else:
-            node = script.node()
-            while node in down:
-                node = script.node()
-            down.append(node)
-            script.say(f"down {node}", "changed")
-
-
-def upgrades(script):
-    """The upgrade domains are upgraded one after the other, round and round, while one node is down. None is upgrading at the
-    end, or the table would list each stripe with a home there."""
-    script.call(f"down {script.node()}")
-    while True:
-        for domain in sorted(script.store.in_upgrade):
-            # A stripe misses one fragment at most, and at most one of each class more: it stays recoverable.
-            script.say_all((f"upgrade {domain}", "changed"), (f"upgraded {domain}", "changed"))
-
-
-def refused(script):
-    """Every command is refused."""
-    pick = script.random
-    while True:
-        stripe, fragment = script.stripe(), pick.choice(FRAGMENTS)
-        script.call(
-            pick.choice(
-                [
-                    f"place {stripe}",
-                    f"lease {stripe} {fragment}",
-                    f"revoke {stripe} {fragment}",
-                    f"done {stripe} {fragment} {pick.randrange(9)}",
-                    f"abandon {stripe} {fragment} {pick.randrange(9)}",
-                    f"fail {60000 + stripe}",
-                    f"up {script.node()}",
-                    f"join {script.node()}",
-                    f"undrain {script.node()}",
-                    f"retire {script.node()}",
-                    f"upgrade {UPGRADES + pick.randrange(9)}",
-                    f"upgraded {pick.randrange(UPGRADES)}",
-                ]
-            )
-        )
-
-
-def comments(script):
-    """Every line is passed over: comments of up to 62 bytes, and one line of sixteen, or so, that is empty."""
-    pick, letters = script.random, string.ascii_lowercase * 3
-    while True:
-        script.add("# " + letters[: pick.randrange(61)] if pick.randrange(16) else "")
-
-
-def idle(script):
-    """The next lease is asked for, and there is none: nothing is to be repaired."""
-    while True:
-        script.say("next", "idle")
-
-
-def stuck(script):
-    """The next lease is asked for, and there is none: all is to be moved, and no node takes anything."""
-    for node in range(len(script.nodes)):
-        script.call(f"drain {node}")
-    while True:
-        script.say("next", "idle")
-
-
-def mixed(script):
-    """All commands but `tick` and `place6`, most of them such as do something."""
-    mix(script, lambda: "place")
-
-
-def mixed6(script):
-    """As `mixed`, with stripes of both codes: one that was dropped is placed of either."""
-    mix(script, lambda: script.random.choice(["place", "place6"]))
-
-
-def mix(script, place_word):
-    """As `mixed`; a stripe is placed by the command that the function returns."""
-    pick, state = script.random, script.store
-    for node in pick.sample(range(len(script.nodes)), 2):
-        script.call(f"fail {node}")
-    while True:
-        lease = pick.choice(list(state.leases)) if state.leases and pick.random() < 0.6 else None
-        if lease:
-            word = pick.choices(["done", "abandon", "revoke"], [12, 1, 1])[0]
-            script.call(" ".join(map(str, [word, *lease, *([state.leases[lease].epoch] if word != "revoke" else [])])))
-        elif pick.random() < 0.5:
-            script.call("next")
-        else:
-            script.call(any_change(script, place_word))
-
-
-def any_change(script, place_word):
-    """A command on a stripe, a node or a domain; nodes that are away come back before many of them are."""
-    pick, state = script.random, script.store
-    stripe, node = script.stripe(), script.node()
-    if pick.random() < 0.6:
-        number = f"{stripe} {pick.choice(FRAGMENTS)}" if pick.random() < 0.1 else None
-        return f"lease {number}" if number else f"drop {stripe}" if stripe in state.stripes else f"{place_word()} {stripe}"
-    if state.upgrading is not None:
-        return f"upgraded {state.upgrading}"
-    gone, draining = state.nodes_in("gone"), state.nodes_in("draining")
-    if len(gone) + len(state.down) + len(draining) > 4:
-        sets = {"join": gone, "up": state.down, "undrain": draining, "retire": draining}
-        word = pick.choice([word for word in sets if sets[word]])
-        return f"{word} {pick.choice(sorted(sets[word]))}"
-    if pick.random() < 0.02:
-        return f"upgrade {pick.choice(sorted(state.in_upgrade))}"
-    return f"{pick.choices(['fail', 'down', 'drain'], [1, 4, 1])[0]} {node}"
-
+# A function that writes the load; one that fills the store first; and what the load is about: the least share of its calls,
+# in hundredths, that are of this command and have this reply, or are of `any` command, or are `asked`, whatever the reply, or
+# are `taken`, with no refusal.
+Kind = namedtuple("Kind", "write fill about")
 
 KINDS = {
-    kind.__name__: kind
-    for kind in (place, churn, repairs, leases, ticks, drains, flaps, upgrades, refused, comments, idle, stuck, mixed, mixed6)
+    "place": Kind(kinds.place, fills.fill_nothing, {"place placed": 100}),
+    "churn": Kind(kinds.churn, fill, {"drop dropped": 49, "place placed": 49}),
+    "repairs": Kind(kinds.repairs, fill, {"next granted": 45, "done ended": 45}),
+    "leases": Kind(kinds.leases, fill, {"next granted": 40, "done ended": 25, "abandon ended": 3, "revoke ended": 3}),
+    "bulk": Kind(kinds.bulk, fill, {"next granted": 45, "done ended": 25}),
+    "ticks": Kind(kinds.ticks, fills.fill_for_moves, {"next granted": 99}),
+    "drains": Kind(kinds.drains, fill, {"next granted": 45, "done ended": 45}),
+    "flaps": Kind(kinds.flaps, fill, {"down changed": 45, "up changed": 45}),
+    "upgrades": Kind(kinds.upgrades, fill, {"upgrade changed": 49, "upgraded changed": 49}),
+    "upgrades_down": Kind(kinds.upgrades_down, fill, {"upgrade changed": 40, "upgraded changed": 40}),
+    "upgrades_work": Kind(
+        kinds.upgrades_work, fill, {"upgrade changed": 13, "upgraded changed": 13, "next granted": 30, "done ended": 30}
+    ),
+    "refused": Kind(kinds.refused, fill, {"any refused": 100}),
+    "comments": Kind(kinds.comments, fill, {}),
+    "idle": Kind(kinds.idle, fill, {"next idle": 100}),
+    "stuck": Kind(kinds.stuck, fills.fill_and_drain, {"next idle": 100}),
+    "wakes": Kind(kinds.wakes, fills.fill_asleep, {"next idle": 30, "next granted": 30, "up changed": 1, "down changed": 1}),
+    "waits": Kind(kinds.waits, fills.fill_waiting, {"next idle": 30, "next granted": 30, "up changed": 1, "down changed": 1}),
+    "mixed": Kind(kinds.mixed, fill, {"taken": 80, "next granted": 10, "done ended": 15, "place placed": 1}),
+    "mixed6": Kind(
+        kinds.mixed6, fills.fill_both,
+        {"taken": 80, "next granted": 10, "done ended": 15, "place placed": 0.5, "place6 placed": 0.5},
+    ),
+    "mixed_hurt": Kind(
+        kinds.mixed_hurt, fills.fill_both,
+        {"taken": 80, "next granted": 15, "done ended": 10, "upgrade changed": 2, "place placed": 1, "place6 placed": 1},
+    ),
 }
-FILLS = {"ticks": fill_for_moves, "mixed6": fill_both}
+SEVERAL = {
+    "churn": KINDS["churn"],
+    "idle": KINDS["idle"],
+    "mixed": Kind(
+        kinds.mixed_parts, fills.fill_part,
+        # (whether an upgrade is refused depends on how the scripts interleave)
+        {"taken": 60, "next granted": 15, "place placed": 1, "place6 placed": 1, "upgrade asked": 1, "down changed": 3},
+    ),
+}
+SCRIPTS = (2, 4, 8)
+KINDS.update({f"{name}-{scripts}": kind for name, kind in SEVERAL.items() for scripts in SCRIPTS})
+FEWEST = 200  # a load with fewer calls after those that fill the store is not looked at
+
+
+def shares(commands, replies):
+    """The share of these calls for what `about` may name, in hundredths."""
+    counts = Counter()
+    for command, reply in zip(commands, replies):
+        word, told = command.split(" ")[0], reply.split(" ")[0]
+        counts.update([f"{word} {told}", f"{word} asked", f"any {told}", *(["taken"] if told != "refused" else [])])
+    return {what: 100 * count / len(commands) for what, count in counts.items()}
+
+
+class Load:
+    """A bundle that is made, with the nodes of its topology."""
+
+    def __init__(self, kind, nodes, scripts):
+        self.kind, self.nodes, self.scripts = kind, nodes, scripts
+
+    def text(self):
+        return bundle_of(self.nodes, [script.lines for script in self.scripts])
+
+    def filling(self):
+        """The bundle that fills the store, and does nothing else."""
+        return bundle_of(self.nodes, [script.lines[:script.filled] for script in self.scripts])
+
+    def lines(self):
+        return sum(len(script.lines) for script in self.scripts)
+
+    def more_lines(self):
+        """The number of lines after those that fill the store."""
+        return sum(len(script.lines[script.filled:]) for script in self.scripts)
+
+    def commands(self):
+        """The commands of each script."""
+        return [[line for line in script.lines if is_command(line)] for script in self.scripts]
+
+    def calls(self, replies):
+        """The commands after those that fill the store, and of these replies to each script those to them."""
+        for script, commands, told in zip(self.scripts, self.commands(), replies):
+            if script.filled is not None:
+                yield from zip(commands[script.filled:], told[script.filled:])
+
+    def lacks(self, replies):
+        """What the load, with these replies to each script, lacks of what it is about: as text, or None."""
+        calls = list(self.calls(replies))
+        found = shares(*zip(*calls)) if len(calls) >= FEWEST else None
+        for what, least in KINDS[self.kind].about.items():
+            if found is not None and found.get(what, 0) < least:
+                return f"of the calls {found.get(what, 0):.1f} in a hundred are `{what}`, and not {least}"
+        return None
+
+
+def is_command(line):
+    return line != "" and line[0] != "#"
 
 
 def make(kind, nodes, stripes, seed, most_bytes, most_lines=None):
-    """The script of a kind, with at most this number of lines after those that fill the store, if one is given."""
-    script = Script(nodes, stripes, f"{seed} {kind} {nodes} {stripes}", most_bytes)
+    """The load of a kind, with at most this number of lines after those that fill the store, if one is given."""
+    count, nodes = int(kind.partition("-")[2] or 1), nodes_of(nodes)
+    seed = f"{seed} {kind} {len(nodes)} {stripes}"
+    most_bytes = (most_bytes - len(topology_of(nodes))) // count - len("%%\n")
+    scripts = []
+    for index in range(count):
+        script = pickle.loads(filled(KINDS[kind].fill, len(nodes), stripes, most_bytes, index, count))
+        script.random.seed(seed if count == 1 else f"{seed} {index}")
+        script.lines_left = None if most_lines is None else (most_lines + index) // count
+        if script.filled is not None:
+            write(script, KINDS[kind].write)
+        scripts.append(script)
+    return Load(kind, nodes, scripts)
+
+
+def nodes_of(count):
+    return {number: Node(number % FAULTS, (number // FAULTS + number) % UPGRADES, MOST_SLOTS) for number in range(count)}
+
+
+@lru_cache(maxsize=16)
+def filled(fill, nodes, stripes, most_bytes, index, count):
+    """A script that has filled the store, or one of several, as bytes: many kinds begin with the same."""
+    room = nodes_of(nodes), stripes, most_bytes
+    script = Script(*room) if count == 1 else Part(*room, index, count)
+    if write(script, fill):
+        script.filled = len(script.lines)
+    return pickle.dumps(script, pickle.HIGHEST_PROTOCOL)
+
+
+def write(script, part):
+    """Writes a part of a script. Returns whether there was room for it."""
     try:
-        FILLS.get(kind, fill)(script)
-        script.lines_left = most_lines
-        KINDS[kind](script)
+        part(script)
     except Full:
-        pass
-    return script
+        return False
+    return True

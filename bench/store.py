@@ -6,20 +6,39 @@ from itertools import chain
 
 import common  # (so that the modules of tests are found)
 import rules
-from rules import least, members
+from rules import least, members, set_of
 
 
 class Fragments:
     """What is stored of the fragments of a stripe."""
 
-    __slots__ = "missing", "open", "stale", "homes", "targets", "barred", "rank"
+    __slots__ = "away", "open", "stale", "in_upgrade", "homes", "targets", "barred"
 
     def __init__(self):
-        self.missing = self.open = 0  # the sets of missing and of open fragments
+        self.away = self.open = 0  # the sets of fragments that are missing whichever domain is upgrading, and of open ones
         self.stale = 0  # the set of fragments of which these two may be out of date
+        self.in_upgrade = defaultdict(int)  # upgrade domain: the set of fragments with a home there
         self.homes, self.targets = {}, {}  # fragment: node
         self.barred = {}  # class: the set of nodes that are barred for its fragments without home and target
-        self.rank = None  # the rank under which the stripe is listed
+
+
+class Ranks:
+    """The stripes of each rank, while a domain is upgrading or none is."""
+
+    __slots__ = "stale", "of_stripe", "stripes"
+
+    def __init__(self):
+        self.stale = 0  # the set of stripes of which the rest may be out of date
+        self.of_stripe = {}  # stripe: rank
+        self.stripes = [0] * rules.RANKS  # rank: the set of stripes
+
+    def list_stripe(self, stripe, rank):
+        """Lists a stripe under a rank, or nowhere."""
+        listed = self.of_stripe.get(stripe)
+        if rank != listed:
+            self.of_stripe[stripe] = rank
+            for changed in {rank, listed} - {None}:
+                self.stripes[changed] ^= 1 << stripe
 
 
 class Store(rules.Store):
@@ -28,15 +47,16 @@ class Store(rules.Store):
     def __init__(self, nodes):
         super().__init__(nodes)
         self.in_mode = {"active": set(nodes), "draining": set(), "gone": set()}
-        self.online = set(nodes)
         self.slots = dict.fromkeys(nodes, 0)  # node: the set of its slots in use
         self.eligible = defaultdict(int)  # load: the set of eligible nodes
         self.loads = 0  # the set of loads that an eligible node has
         self.listed = dict.fromkeys(nodes)  # node: the load under which it is listed as eligible
+        self.unsure = 0  # the set of nodes that may be listed wrongly
         self.home_keys, self.target_keys = ({node: set() for node in nodes} for _ in range(2))
         self.of_stripe = {}  # stripe: Fragments
-        self.work = [0] * rules.RANKS  # rank: the set of stripes with an open fragment
-        self.stale = set()  # the stripes whose rank in `work` may be out of date
+        self.open = 0  # the set of stripes with an open fragment
+        self.ranks = {domain: Ranks() for domain in (None, *self.in_upgrade)}  # the domain that is upgrading: Ranks
+        self.stale = set()  # the stripes of which these two may be out of date
         self.skipped = 0  # the set of stripes that `next` can grant nothing of, until a change that is no grant
         self.ends = defaultdict(set)  # clock: the leases that end then
         for node in nodes:
@@ -47,9 +67,6 @@ class Store(rules.Store):
     def nodes_in(self, mode):
         return self.in_mode[mode]
 
-    def is_online(self, node):
-        return node in self.online
-
     def load(self, node):
         return self.slots[node].bit_count()
 
@@ -57,6 +74,7 @@ class Store(rules.Store):
         return least(~self.slots[node])
 
     def eligible_by_load(self):
+        self.list_unsure()
         return map(self.eligible.__getitem__, members(self.loads))
 
     def homes_on(self, node):
@@ -81,19 +99,13 @@ class Store(rules.Store):
                 self.loads |= 1 << load
             self.listed[node] = load
 
-    def update_online(self, node):
-        """Updates the indexes for a node that may have gone offline or come online."""
-        is_online = super().is_online(node)
-        if is_online != (node in self.online):
-            (self.online.add if is_online else self.online.discard)(node)
-            for stripe, fragment in self.home_keys[node]:
-                # (a fragment with its home here is missing exactly while the node is offline)
-                self.of_stripe[stripe].missing ^= 1 << fragment
-                self.stale.add(stripe)
-        self.list_node(node)
-        self.skipped = 0
+    def list_unsure(self):
+        unsure, self.unsure = self.unsure, 0
+        for node in members(unsure):
+            self.list_node(node)
 
     def set_mode(self, node, mode, is_down):
+        was_away = self.is_away(node)
         self.in_mode[self.mode[node]].remove(node)
         if mode != self.mode[node]:  # (whether a fragment is open depends on nothing else of a node)
             for stripe, fragment in self.home_keys[node]:
@@ -101,14 +113,19 @@ class Store(rules.Store):
                 self.stale.add(stripe)
         super().set_mode(node, mode, is_down)
         self.in_mode[mode].add(node)
-        self.update_online(node)
+        if self.is_away(node) != was_away:
+            for stripe, fragment in self.home_keys[node]:
+                self.of_stripe[stripe].away ^= 1 << fragment
+                self.stale.add(stripe)
+        self.list_node(node)
+        self.skipped = 0
 
     def set_upgrading(self, domain):
         changed = [known for known in (self.upgrading, domain) if known is not None]
         super().set_upgrading(domain)
         for known in changed:
-            for node in members(self.in_upgrade[known]):
-                self.update_online(node)
+            self.unsure |= self.in_upgrade[known]
+        self.skipped = 0
 
     # Stripes.
 
@@ -117,20 +134,22 @@ class Store(rules.Store):
         of_stripe = self.of_stripe[stripe]
         if of_stripe.stale:
             stale, of_stripe.stale = of_stripe.stale, 0
-            missing, is_open = of_stripe.missing & ~stale, of_stripe.open & ~stale
+            away, is_open = of_stripe.away & ~stale, of_stripe.open & ~stale
             while stale:
                 bit = stale & -stale
-                key = stripe, bit.bit_length() - 1
-                if self.is_missing(key):
-                    missing |= bit
-                if self.is_open(key):
+                fragment = bit.bit_length() - 1
+                node = of_stripe.homes.get(fragment)
+                if node is None or self.is_away(node):
+                    away |= bit
+                if self.is_open((stripe, fragment)):
                     is_open |= bit
                 stale ^= bit
-            of_stripe.missing, of_stripe.open = missing, is_open
+            of_stripe.away, of_stripe.open = away, is_open
         return of_stripe
 
     def missing(self, stripe):
-        return self.updated(stripe).missing
+        of_stripe = self.updated(stripe)
+        return of_stripe.away | of_stripe.in_upgrade.get(self.upgrading, 0)
 
     def open_fragments(self, stripe):
         return self.updated(stripe).open
@@ -140,30 +159,43 @@ class Store(rules.Store):
         return chain(of_stripe.homes.items(), of_stripe.targets.items())
 
     def with_work(self):
-        self.update_stripes()
-        for stripes in self.work:
-            for stripe in members(stripes & ~self.skipped):
+        self.list_unsure()
+        if not self.loads:
+            return  # (no node takes a fragment, so that nothing could be granted)
+        for stripes in self.updated_ranks().stripes:
+            for stripe in members(stripes & self.open & ~self.skipped):
                 yield stripe
                 # (the caller asks for more only where nothing of this stripe could be granted)
                 self.skipped |= 1 << stripe
 
-    def update_stripes(self):
-        """Lists each stale stripe under its rank."""
-        stale, self.stale = self.stale, set()
-        for stripe in stale:
-            of_stripe = self.updated(stripe)
-            rank = rules.rank_of(self.stripes[stripe], of_stripe.missing) if of_stripe.open else None
-            if rank != of_stripe.rank:
-                self.list_stripe(stripe, rank)
+    def count_open(self):
+        """The number of stripes with an open fragment."""
+        if self.stale:
+            self.update_stripes()
+        return self.open.bit_count()
 
-    def list_stripe(self, stripe, rank):
-        """Lists a stripe under a rank, or nowhere."""
-        of_stripe = self.of_stripe[stripe]
-        if of_stripe.rank is not None:
-            self.work[of_stripe.rank] ^= 1 << stripe
-        if rank is not None:
-            self.work[rank] ^= 1 << stripe
-        of_stripe.rank = rank
+    def beyond_recovery(self):
+        return self.updated_ranks().stripes[-1]
+
+    def updated_ranks(self):
+        """The ranks as things are, after stale stripes are looked at again."""
+        if self.stale:
+            self.update_stripes()
+        ranks = self.ranks[self.upgrading]
+        stale, ranks.stale = ranks.stale, 0
+        for stripe in members(stale):
+            is_there = stripe in self.stripes
+            ranks.list_stripe(stripe, rules.rank_of(self.stripes[stripe], self.missing(stripe)) if is_there else None)
+        return ranks
+
+    def update_stripes(self):
+        """Finds again which of the stale stripes have an open fragment; they are stale in all ranks."""
+        stale = set_of(self.stale)
+        self.open &= ~stale
+        self.open |= set_of(stripe for stripe in self.stale if stripe in self.stripes and self.updated(stripe).open)
+        for ranks in self.ranks.values():
+            ranks.stale |= stale
+        self.stale.clear()
 
     def add_stripe(self, stripe, code):
         super().add_stripe(stripe, code)
@@ -173,9 +205,8 @@ class Store(rules.Store):
 
     def remove_stripe(self, stripe):
         super().remove_stripe(stripe)
-        self.list_stripe(stripe, None)
         del self.of_stripe[stripe]
-        self.stale.discard(stripe)
+        self.stale.add(stripe)
 
     # The choice of a seat.
 
@@ -216,12 +247,14 @@ class Store(rules.Store):
 
     def set_home(self, key, seat):
         super().set_home(key, seat)
+        self.of_stripe[key[0]].in_upgrade[self.nodes[seat[0]].upgrade] |= 1 << key[1]
         self.hold(key, seat, self.home_keys, self.of_stripe[key[0]].homes)
 
     def clear_home(self, key):
         if key in self.homes:
             seat = self.homes[key]
             super().clear_home(key)
+            self.of_stripe[key[0]].in_upgrade[self.nodes[seat[0]].upgrade] ^= 1 << key[1]
             self.release(key, seat, self.home_keys, self.of_stripe[key[0]].homes)
 
     def set_lease(self, key, lease):
