@@ -39,7 +39,7 @@ pub fn encode(
     Ok(())
 }
 
-// Returns the first fragment whose buffer is not as long as that of fragment 0, as an error.
+/// Returns the first fragment whose buffer is not as long as that of fragment 0, as an error.
 fn check_lengths(
     code: Code,
     data_fragments: &[&[u8]],
@@ -58,7 +58,7 @@ fn check_lengths(
     Ok(())
 }
 
-// Returns the length of one of the buffers, of which the data come first.
+/// Returns the length of one of the buffers, of which the data come first.
 fn length_of(data_fragments: &[&[u8]], parities: &[&mut [u8]], number: usize) -> usize
     requires { number < length (read data_fragments.now ++ written parities.now) }
     ensures length { result ≡ length (buffer_at (read data_fragments.now ++ written parities.now) number) }
@@ -71,7 +71,7 @@ fn length_of(data_fragments: &[&[u8]], parities: &[&mut [u8]], number: usize) ->
     }
 }
 
-// Returns the length of a buffer, whose items are bytes.
+/// Returns the length of a buffer, whose items are bytes.
 fn length_of_bytes(buffer: &[u8]) -> usize
     ensures length { result ≡ length buffer.now }
     ensures bytes { (i : ℕ) → get_or buffer.now i 0 < 256 }
@@ -79,7 +79,7 @@ fn length_of_bytes(buffer: &[u8]) -> usize
     buffer.len()
 }
 
-// Writes one parity of a stripe, numbered from 0.
+/// Writes one parity of a stripe, numbered from 0.
 fn put_parity(code: Code, number: usize, data_fragments: &[&[u8]], parity: &mut [u8])
     requires number { number < 4 }
     requires count { length data_fragments.now ≡ data_count code }

@@ -42,7 +42,7 @@ pub fn matrix(code: Code) -> [u8; MATRIX]
     matrix
 }
 
-// Returns the coefficient of a data fragment in a fragment.
+/// Returns the coefficient of a data fragment in a fragment.
 fn coefficient(code: Code, fragment: usize, column: usize) -> u8
     requires fragment { fragment < fragment_count code }
     requires column { column < data_count_of code }

@@ -4,7 +4,7 @@ ghost use Rattle.lrc_coder.specs.Buffers.{IsProductAdded};
 
 use lrc_field::multiply;
 
-// Returns the product of the coefficient and each byte.
+/// Returns the product of the coefficient and each byte.
 fn products(coefficient: u8) -> [u8; 256]
     ensures { (byte : ℕ) → byte < 256 → get_or result byte 0 ≡ times coefficient byte }
 {
@@ -21,7 +21,7 @@ fn products(coefficient: u8) -> [u8; 256]
     products
 }
 
-// Adds the bytes of the source.
+/// Adds the bytes of the source.
 fn add_bytes(source: &[u8], sum: &mut [u8])
     requires { length source.now ≡ length sum.old }
     ensures { IsProductAdded 1 source.now sum.old sum.new }
@@ -31,7 +31,7 @@ fn add_bytes(source: &[u8], sum: &mut [u8])
     }
 }
 
-// Adds what a table has for the bytes of the source.
+/// Adds what a table has for the bytes of the source.
 fn add_by_table(coefficient: u8, source: &[u8], sum: &mut [u8])
     requires { length source.now ≡ length sum.old }
     ensures { IsProductAdded coefficient source.now sum.old sum.new }
@@ -42,7 +42,7 @@ fn add_by_table(coefficient: u8, source: &[u8], sum: &mut [u8])
     }
 }
 
-// Adds the coefficient times the source, byte by byte.
+/// Adds the coefficient times the source, byte by byte.
 pub(crate) fn add_product(coefficient: u8, source: &[u8], sum: &mut [u8])
     requires { length source.now ≡ length sum.old }
     ensures { IsProductAdded coefficient source.now sum.old sum.new }

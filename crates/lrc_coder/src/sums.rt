@@ -3,7 +3,7 @@ ghost use Rattle.lrc_coder.specs.Buffers.{read, AreLong, IsSum};
 
 use crate::products::add_product;
 
-// Writes the sum of the sources, each times its coefficient. A source whose coefficient is 0 is not read.
+/// Writes the sum of the sources, each times its coefficient. A source whose coefficient is 0 is not read.
 pub(crate) fn put_sum(coefficients: &[u8], sources: &[&[u8]], sum: &mut [u8])
     requires count { length sources.now ≤ length coefficients.now }
     requires long { AreLong coefficients.now (read sources.now) (length sources.now) (length sum.old) }
