@@ -44,12 +44,16 @@ class Chaos:
             self.group.start(member)
         del self.away[number]
 
+    def dice(self):
+        """What happens next, from 0 to 1: at first one is killed and one is stopped, and then chance decides."""
+        return {0: 0.0, 1: 0.5}.get(sum(self.acts.values()), self.random.random())
+
     def act(self, now):
         group = self.group
         self.come_back(now)
         if len(self.away) >= (len(group.members) - 1) // 2:
             return
-        number, dice = self.random.choice([it for it in group.members if it not in self.away]), self.random.random()
+        number, dice = self.random.choice([it for it in group.members if it not in self.away]), self.dice()
         if dice < 0.45:
             group.members[number].kill()
             self.away[number] = now + self.random.uniform(0, 1.5)
@@ -82,14 +86,14 @@ def make_books(group, topology):
             raise RuntimeError(f"the book {book} is not made")
 
 
-def chaos(program, folder, nodes, topology, seconds, seed, env=None, is_quiet=False, callers=8):
+def chaos(program, folder, nodes, topology, seconds, seed, env=None, is_quiet=False, callers=8, lookers=2):
     """One run. With is_quiet nothing happens to the members."""
     run = Run()
     words = ["--election", "400ms", "--snapshot-every", "150", "--trailing", "20", "--tick", "0"]
     with Group(program, folder, 3, words, env) as group:
         make_books(group, topology)
         calls = [Caller(group, number, BOOKS, 0.004) for number in range(1, callers + 1)]
-        looks = [Looker(group, number, BOOKS) for number in range(2)]
+        looks = [Looker(group, number, BOOKS) for number in range(lookers)]
         reads = [Reader(group, book) for book in BOOKS]
         for client in [*calls, *looks, *reads]:
             client.start()

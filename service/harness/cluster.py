@@ -2,6 +2,7 @@
 import http.client
 import json
 import os
+import random
 import shutil
 import signal
 import socket
@@ -9,10 +10,21 @@ import subprocess
 import time
 
 
+# The system gives clients ports from 32768 on, so none of them takes the port of a member that is away.
+PORTS = iter(random.sample(range(10000, 20000), 10000))
+
+
 def free_port():
-    with socket.socket() as one:
-        one.bind(("127.0.0.1", 0))
-        return one.getsockname()[1]
+    """A port that nobody listens at, and that was not given before."""
+    for port in PORTS:
+        with socket.socket() as one:
+            one.setsockopt(socket.SOL_SOCKET, socket.SO_REUSEADDR, 1)
+            try:
+                one.bind(("127.0.0.1", port))
+                return port
+            except OSError:
+                pass  # (somebody has it)
+    raise RuntimeError("there is no free port")
 
 
 class Asker:

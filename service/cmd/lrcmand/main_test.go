@@ -5,7 +5,6 @@ import (
 	"crypto/x509"
 	"io"
 	"log"
-	"net"
 	"net/http"
 	"os"
 	"path/filepath"
@@ -16,6 +15,7 @@ import (
 
 	"lrcman/service/internal/engine"
 	"lrcman/service/internal/testcerts"
+	"lrcman/service/internal/testports"
 )
 
 func TestTheCommandLineIsReadOrRefused(t *testing.T) {
@@ -83,21 +83,10 @@ func TestTheCommandLineIsReadOrRefused(t *testing.T) {
 	}
 }
 
-// port is one that is free now.
-func port(t *testing.T) string {
-	t.Helper()
-	listener, err := net.Listen("tcp", "127.0.0.1:0")
-	if err != nil {
-		t.Fatal(err)
-	}
-	defer listener.Close()
-	return listener.Addr().String()
-}
-
 func TestClientsShowCertificates(t *testing.T) {
 	ours, others := testcerts.New(t, "ours"), testcerts.New(t, "others")
 	certificate, key := ours.Sign("server")
-	address := port(t)
+	address := testports.Free(t)
 	o, err := parse([]string{"--data", t.TempDir(), "--listen", address, "--cert", certificate, "--key", key, "--client-ca", ours.File})
 	if err != nil {
 		t.Fatal(err)
@@ -112,7 +101,7 @@ func TestClientsShowCertificates(t *testing.T) {
 		return answer.StatusCode, nil
 	}
 	good := client(t, ours, ours)
-	for end := time.Now().Add(10 * time.Second); ; time.Sleep(20 * time.Millisecond) {
+	for end := time.Now().Add(60 * time.Second); ; time.Sleep(20 * time.Millisecond) {
 		if status, err := ask(good, "https"); err == nil && status == 200 {
 			break
 		} else if time.Now().After(end) {

@@ -6,7 +6,6 @@ import (
 	"fmt"
 	"io"
 	"log"
-	"net"
 	"net/http"
 	"os/exec"
 	"regexp"
@@ -16,17 +15,13 @@ import (
 
 	"lrcman/service/internal/ctl"
 	"lrcman/service/internal/survey/recorded"
+	"lrcman/service/internal/testports"
 )
 
 // start runs a member alone, which ends with the test's process, and returns its address.
 func start(t *testing.T) string {
 	t.Helper()
-	listener, err := net.Listen("tcp", "127.0.0.1:0")
-	if err != nil {
-		t.Fatal(err)
-	}
-	address := listener.Addr().String()
-	listener.Close()
+	address := testports.Free(t)
 	o, err := parse([]string{"--data", t.TempDir(), "--listen", address, "--tick", "0"})
 	if err != nil {
 		t.Fatal(err)
@@ -39,7 +34,7 @@ func start(t *testing.T) string {
 				return address
 			}
 		}
-		if time.Since(begin) > 20*time.Second {
+		if time.Since(begin) > 60*time.Second {
 			t.Fatal("the member does not begin")
 		}
 	}
@@ -94,6 +89,16 @@ func metric(text, sample string) string {
 	return "absent"
 }
 
+// differences are the samples of a text that are not as they have to be.
+func differences(text string, want map[string]int) (wrong []string) {
+	for sample, value := range want {
+		if got := metric(text, sample); got != fmt.Sprint(value) {
+			wrong = append(wrong, fmt.Sprintf("%s is %s and not %d", sample, got, value))
+		}
+	}
+	return wrong
+}
+
 func TestAMemberShowsWhatItDoes(t *testing.T) {
 	address := start(t)
 	b, err := recorded.Load("rack")
@@ -101,8 +106,6 @@ func TestAMemberShowsWhatItDoes(t *testing.T) {
 		t.Fatal(err)
 	}
 	makeBook(t, address, b)
-	time.Sleep(1200 * time.Millisecond) // (the watch steps once a second)
-	text := get(t, "http://"+address+"/metrics")
 	want := map[string]int{`lrcmand_entries_total{book="p0"}`: len(b.Lines), `lrcmand_raft_is_leader`: 1,
 		`lrcmand_http_requests_total{route="/books/{book}/call",status="200"}`: len(b.Lines), `lrcmand_call_duration_seconds_count{book="p0"}`: len(b.Lines)}
 	if recorded.HasRules() {
@@ -113,10 +116,12 @@ func TestAMemberShowsWhatItDoes(t *testing.T) {
 			want[fmt.Sprintf(`lrcmand_commands_total{book="p0",command=%q,reply=%q}`, command, reply)] = int(count)
 		}
 	}
-	for sample, value := range want {
-		if got := metric(text, sample); got != fmt.Sprint(value) {
-			t.Errorf("%s is %s and not %d", sample, got, value)
+	wrong := differences(get(t, "http://"+address+"/metrics"), want)
+	for begin := time.Now(); len(wrong) > 0; time.Sleep(200 * time.Millisecond) { // (the watch steps once a second)
+		if time.Since(begin) > 30*time.Second {
+			t.Fatal(wrong)
 		}
+		wrong = differences(get(t, "http://"+address+"/metrics"), want)
 	}
 	if page := get(t, "http://"+address+"/?book=p0"); !strings.Contains(page, "<title>lrcmand</title>") {
 		t.Error("there is no page")

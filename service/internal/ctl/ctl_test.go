@@ -77,6 +77,12 @@ func (s *service) ServeHTTP(w http.ResponseWriter, r *http.Request) {
 	}
 }
 
+func (s *service) requests() int {
+	s.mu.Lock()
+	defer s.mu.Unlock()
+	return len(s.asked)
+}
+
 func (s *service) call(w http.ResponseWriter, r *http.Request) {
 	text, _ := io.ReadAll(r.Body)
 	body := map[string]interface{}{}
@@ -251,7 +257,7 @@ func TestAnotherMemberIsAsked(t *testing.T) {
 
 func TestAMemberThatHangsIsPassedOver(t *testing.T) {
 	before := answerTime
-	answerTime = 200 * time.Millisecond
+	answerTime = time.Second
 	defer func() { answerTime = before }()
 	end := make(chan struct{})
 	hanging := httptest.NewServer(http.HandlerFunc(func(http.ResponseWriter, *http.Request) { <-end }))
@@ -261,7 +267,7 @@ func TestAMemberThatHangsIsPassedOver(t *testing.T) {
 	if status, out, err := ctl(t, "call", "p0", "tick", "--server", hanging.URL+","+address); status != 0 || out != "18 ticked 1 0\n" || len(s.calls) != 1 {
 		t.Errorf("status %d, %s, %s", status, out, err)
 	}
-	status, _, err := ctl(t, "call", "p0", "tick", "--server", hanging.URL, "--timeout", "300ms")
+	status, _, err := ctl(t, "call", "p0", "tick", "--server", hanging.URL, "--timeout", "1500ms")
 	if status != 1 || !strings.Contains(err, "nobody knows whether it was made") {
 		t.Errorf("status %d, %s", status, err)
 	}
@@ -359,7 +365,12 @@ func TestWatchGoesOnBehindTheLastEntry(t *testing.T) {
 	s, address := newService(t)
 	ctx, end := context.WithTimeout(context.Background(), 20*time.Second)
 	defer end()
-	time.AfterFunc(1500*time.Millisecond, end)
+	go func() { // it asks for the second time from where it was, and for the third one behind what it got
+		defer end()
+		for s.requests() < 3 && ctx.Err() == nil {
+			time.Sleep(10 * time.Millisecond)
+		}
+	}()
 	out := &writer{lines: 100, end: end}
 	var err strings.Builder
 	status := Run(ctx, []string{"watch", "p0", "--server", address}, out, &err)

@@ -323,7 +323,7 @@ func (s *service) status(c net.Conn, want int) {
 
 func TestASlowBodyIsRefused(t *testing.T) {
 	before := bodyTime
-	bodyTime = 200 * time.Millisecond
+	bodyTime = time.Second
 	defer func() { bodyTime = before }()
 	s := newService(t, nil)
 	c := s.dial()
@@ -355,7 +355,7 @@ func TestALookTellsHowNewItIs(t *testing.T) {
 	if err := json.Unmarshal([]byte(text), &look); err != nil {
 		t.Fatal(err)
 	}
-	if look.N != 1 || look.Opens != 1 || look.Index != 2 || look.Age < 0 || look.Age > 1000 || len(look.Rows) != 1 {
+	if look.N != 1 || look.Opens != 1 || look.Index != 2 || look.Age < 0 || look.Age > 60000 || len(look.Rows) != 1 {
 		t.Error(text)
 	}
 	for name, want := range map[string]string{"Lrcmand-Entries": "1", "Lrcmand-Opens": "1", "Lrcmand-Index": "2", "Lrcmand-Age-Ms": fmt.Sprint(look.Age)} {
@@ -381,7 +381,7 @@ func TestALookGrowsOldWhereNobodyAnswers(t *testing.T) {
 	s.refused("GET", "/books/p0?now=1", "", 503, "there is no leader")
 	s.refused("GET", "/health", "", 503, "there is no leader")
 	s.front.fresh = int64(time.Since(s.front.begun) - 3*time.Second)
-	if have := age(); len(have) != 4 || have < "3000" || have > "3900" {
+	if have := age(); len(have) != 4 || have < "3000" || have > "4900" {
 		t.Error(have)
 	}
 	s.expect("GET", "/health", "", 200, `{"ok":true}`)

@@ -53,7 +53,7 @@ func serveOnce(t *testing.T, p *Page, token string) *httptest.Server {
 			refuse(w, http.StatusUnauthorized, "no token")
 			return
 		}
-		ctx, cancel := context.WithTimeout(r.Context(), 50*time.Millisecond)
+		ctx, cancel := context.WithTimeout(r.Context(), 200*time.Millisecond)
 		defer cancel()
 		p.Events(w, r.WithContext(ctx))
 	})

@@ -198,7 +198,7 @@ func TestAnEventComesOnlyAfterAChange(t *testing.T) {
 	if err != nil || number(t, second, "n") != 91 {
 		t.Fatalf("the second event: %v", err)
 	}
-	if waited := time.Since(begin); waited < 2400*time.Millisecond || waited > 6*time.Second {
+	if waited := time.Since(begin); waited < 2400*time.Millisecond || waited > time.Minute {
 		t.Errorf("it came after %v", waited)
 	}
 }
@@ -246,7 +246,7 @@ func TestThereAreOnlySoManyStreams(t *testing.T) {
 		stop()
 	}
 	for begin := time.Now(); len(p.streams) > 0; time.Sleep(10 * time.Millisecond) {
-		if time.Since(begin) > 10*time.Second {
+		if time.Since(begin) > time.Minute {
 			t.Fatalf("%d streams are open though their clients have gone", len(p.streams))
 		}
 	}

@@ -96,6 +96,7 @@ func (n *Node) serve(ready raft.Ready) bool {
 		n.send(ready.Messages)
 	}
 	n.raft.Advance()
+	n.tellChanges()
 	if isMember && n.isDue() {
 		n.trySnapshot() // (one that is being written already will do)
 	}

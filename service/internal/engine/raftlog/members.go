@@ -175,16 +175,31 @@ func (n *Node) applyChange(entry *raftpb.Entry) bool {
 	}
 	n.conf = *n.raft.ApplyConfChange(change)
 	if refused != "" {
-		n.tell(change.ID, nil, engine.Refused(refused))
+		n.changed = append(n.changed, changed{change.ID, engine.Refused(refused)})
 		return true
 	}
 	n.connect(change.Type, id, member)
-	n.tell(change.ID, nil, nil)
+	n.changed = append(n.changed, changed{change.ID, nil})
 	if change.Type == raftpb.ConfChangeRemoveNode && id == n.cfg.Self.ID {
 		n.end(engine.ErrRemoved)
 		return false
 	}
 	return true
+}
+
+// A changed is the outcome of a change of members, by the number of its proposal.
+type changed struct {
+	id  uint64
+	err error
+}
+
+// tellChanges tells of the changes that were applied. Only now raft counts them as over: whoever hears of one may ask for the
+// next one at once.
+func (n *Node) tellChanges() {
+	for _, it := range n.changed {
+		n.tell(it.id, nil, it.err)
+	}
+	n.changed = nil
 }
 
 func (n *Node) connect(kind raftpb.ConfChangeType, id uint64, member engine.Member) {
@@ -216,17 +231,32 @@ func (n *Node) disconnect(id uint64) {
 	}
 }
 
-// reconfigure proposes a change of members. A second one while one is under way becomes an empty entry: nobody hears of it,
-// and the context ends.
+// reconfigure proposes a change of members, and proposes it again while nobody hears of it: raft makes an empty entry of a
+// change that comes before the last one is over on the leader, without a word. All of these have one number. So whoever
+// waits hears of the first that is applied, and nobody of the others, which change nothing then.
 func (n *Node) reconfigure(ctx context.Context, change raftpb.ConfChange) error {
 	id, told := n.wait()
 	change.ID = id
-	if err := n.raft.ProposeConfChange(ctx, change); err != nil {
+	again := time.NewTicker(n.cfg.Election)
+	defer again.Stop()
+	for isProposed := false; ; {
+		err := n.raft.ProposeConfChange(ctx, change)
+		if err != nil && !isProposed {
+			n.forgetWaiting(id)
+			return engine.ErrNoLeader
+		}
+		isProposed = true
+		select {
+		case outcome := <-told:
+			return outcome.err
+		case <-again.C:
+			continue
+		case <-ctx.Done():
+		case <-n.done:
+		}
 		n.forgetWaiting(id)
-		return engine.ErrNoLeader
+		return engine.ErrUnknown
 	}
-	_, err := n.outcome(ctx, id, told)
-	return err
 }
 
 // Add adds a member.

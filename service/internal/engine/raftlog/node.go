@@ -71,6 +71,7 @@ type Node struct {
 
 	conf     raftpb.ConfState // of the loop
 	isLeader bool             // of the loop
+	changed  []changed        // of the loop: changes of members that nobody was told of yet
 	isSaving bool             // of the loop: a snapshot is being written
 	retryAt  time.Time        // of the loop: no snapshot before
 

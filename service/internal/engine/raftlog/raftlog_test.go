@@ -9,7 +9,6 @@ import (
 	"hash/crc32"
 	"io"
 	"log"
-	"net"
 	"os"
 	"path/filepath"
 	"reflect"
@@ -23,6 +22,7 @@ import (
 
 	"lrcman/service/internal/engine"
 	"lrcman/service/internal/testcerts"
+	"lrcman/service/internal/testports"
 )
 
 // TestMain makes the files of the log small: so that they are many, and made quickly.
@@ -135,10 +135,13 @@ func begin(t *testing.T, cfg Config) (*Node, *list) {
 	return n, machine
 }
 
+// long is how long something may take on a busy machine before it counts as never.
+const long = time.Minute
+
 // propose asks until it is told.
 func propose(t *testing.T, n engine.Engine, text string) interface{} {
 	t.Helper()
-	ctx, cancel := context.WithTimeout(context.Background(), 10*time.Second)
+	ctx, cancel := context.WithTimeout(context.Background(), long)
 	defer cancel()
 	for {
 		told, err := n.Propose(ctx, []byte(text))
@@ -153,7 +156,7 @@ func propose(t *testing.T, n engine.Engine, text string) interface{} {
 
 func eventually(t *testing.T, what string, is func() bool) {
 	t.Helper()
-	for end := time.Now().Add(15 * time.Second); !is(); time.Sleep(10 * time.Millisecond) {
+	for end := time.Now().Add(long); !is(); time.Sleep(10 * time.Millisecond) {
 		if time.Now().After(end) {
 			t.Fatalf("never: %s", what)
 		}
@@ -162,9 +165,13 @@ func eventually(t *testing.T, what string, is func() bool) {
 
 func barrier(t *testing.T, n *Node) {
 	t.Helper()
-	ctx, cancel := context.WithTimeout(context.Background(), 10*time.Second)
+	ctx, cancel := context.WithTimeout(context.Background(), long)
 	defer cancel()
-	if err := n.Barrier(ctx); err != nil {
+	err := n.Barrier(ctx)
+	for err == engine.ErrNoLeader && ctx.Err() == nil { // (on a busy machine an election may take more than one try)
+		err = n.Barrier(ctx)
+	}
+	if err != nil {
 		t.Fatal(err)
 	}
 }
@@ -212,7 +219,7 @@ func TestOneMemberIsReadyAtOnceAndGoesOn(t *testing.T) {
 			t.Fatal(err)
 		}
 	}
-	if least > time.Second {
+	if least > 5*time.Second {
 		t.Errorf("the shortest start took %v", least)
 	}
 }
@@ -420,7 +427,7 @@ func TestAMachineThatCannotApplyEndsTheProcess(t *testing.T) {
 		if !errors.Is(err, machine.fault) {
 			t.Fatal(err)
 		}
-	case <-time.After(10 * time.Second):
+	case <-time.After(long):
 		t.Fatal("it goes on")
 	}
 }
@@ -434,21 +441,11 @@ type group struct {
 	machines map[uint64]*list
 }
 
-func address(t *testing.T) string {
-	t.Helper()
-	listener, err := net.Listen("tcp", "127.0.0.1:0")
-	if err != nil {
-		t.Fatal(err)
-	}
-	defer listener.Close()
-	return listener.Addr().String()
-}
-
 func groupOf(t *testing.T, size int, changes ...func(*Config)) *group {
 	t.Helper()
 	g := &group{t: t, configs: map[uint64]Config{}, nodes: map[uint64]*Node{}, machines: map[uint64]*list{}}
 	for id := uint64(1); id <= uint64(size); id++ {
-		g.members = append(g.members, engine.Member{ID: id, Peer: address(t), Client: "127.0.0.1:1"})
+		g.members = append(g.members, engine.Member{ID: id, Peer: testports.Free(t), Client: "127.0.0.1:1"})
 	}
 	for _, member := range g.members {
 		cfg, _ := configOf(t, t.TempDir(), member, g.members...)
@@ -562,17 +559,34 @@ func TestAMemberThatWasAwayGetsASnapshot(t *testing.T) {
 
 func (g *group) add(id uint64) {
 	g.t.Helper()
-	member := engine.Member{ID: id, Peer: address(g.t), Client: "127.0.0.1:1"}
-	g.must(g.nodes[g.leader()].Add, member)
+	member := engine.Member{ID: id, Peer: testports.Free(g.t), Client: "127.0.0.1:1"}
+	g.must(member)
 	g.configs[id], _ = configOf(g.t, g.t.TempDir(), member)
 	g.start(id)
 }
 
-func (g *group) must(change func(context.Context, engine.Member) error, member engine.Member) {
+// heard asks the leader for a change until an answer comes. It tells whether it asked more than once: then the change may
+// have been made before.
+func (g *group) heard(change func(context.Context, *Node) error) (err error, isAgain bool) {
 	g.t.Helper()
-	ctx, cancel := context.WithTimeout(context.Background(), 10*time.Second)
+	ctx, cancel := context.WithTimeout(context.Background(), long)
 	defer cancel()
-	if err := change(ctx, member); err != nil {
+	for ctx.Err() == nil {
+		err = change(ctx, g.nodes[g.leader()])
+		if err != engine.ErrUnknown && err != engine.ErrNoLeader {
+			return err, isAgain
+		}
+		isAgain = true
+		time.Sleep(10 * time.Millisecond)
+	}
+	return err, isAgain
+}
+
+func (g *group) must(member engine.Member) {
+	g.t.Helper()
+	err, isAgain := g.heard(func(ctx context.Context, n *Node) error { return n.Add(ctx, member) })
+	isMade := isAgain && err == engine.Refused(fmt.Sprintf("there is a member %d already", member.ID))
+	if err != nil && !isMade {
 		g.t.Fatal(err)
 	}
 }
@@ -583,26 +597,43 @@ func TestMembersComeAndGo(t *testing.T) {
 	proposeAll(t, g.nodes[1], texts(1, 10))
 	g.add(4)
 	g.alike(texts(1, 10))
-	ctx, cancel := context.WithTimeout(context.Background(), 10*time.Second)
-	defer cancel()
+	add := func(member engine.Member) func(context.Context, *Node) error {
+		return func(ctx context.Context, n *Node) error { return n.Add(ctx, member) }
+	}
 	for name, it := range map[string]struct {
-		err  error
-		want string
+		change func(context.Context, *Node) error
+		want   string
 	}{
-		"twice":   {g.nodes[1].Add(ctx, engine.Member{ID: 4, Peer: "127.0.0.1:1"}), "there is a member 4 already"},
-		"unknown": {g.nodes[1].Remove(ctx, 9), "there is no member 9"},
-		"address": {g.nodes[1].Add(ctx, engine.Member{ID: 9}), "a member has no address for the others: start it with --peer"},
-		"port":    {g.nodes[1].Add(ctx, engine.Member{ID: 9, Peer: "here"}), "this is no address: \"here\""},
+		"twice":   {add(engine.Member{ID: 4, Peer: "127.0.0.1:1"}), "there is a member 4 already"},
+		"unknown": {func(ctx context.Context, n *Node) error { return n.Remove(ctx, 9) }, "there is no member 9"},
+		"address": {add(engine.Member{ID: 9}), "a member has no address for the others: start it with --peer"},
+		"port":    {add(engine.Member{ID: 9, Peer: "here"}), "this is no address: \"here\""},
 	} {
-		if it.err != engine.Refused(it.want) {
-			t.Errorf("%s: %v", name, it.err)
+		if err, _ := g.heard(it.change); err != engine.Refused(it.want) {
+			t.Errorf("%s: %v", name, err)
 		}
 	}
-	gone := g.leader()
-	if err := g.nodes[gone].Remove(ctx, gone); err != nil && err != engine.ErrUnknown { // (the leader may end before it hears)
+	gone := g.removeLeader()
+	proposeAll(t, g.nodes[g.other(gone)], texts(11, 12))
+	g.alike(texts(1, 12))
+	err, _ := g.heard(add(engine.Member{ID: gone, Peer: "127.0.0.1:1"}))
+	if want := fmt.Sprintf("the number %d was removed, and is not used again", gone); err != engine.Refused(want) {
 		t.Fatal(err)
 	}
-	eventually(t, "the removed member ends", func() bool {
+}
+
+// removeLeader removes one member while it leads, and waits until it has ended.
+func (g *group) removeLeader() uint64 {
+	g.t.Helper()
+	gone := g.leader()
+	ctx, cancel := context.WithTimeout(context.Background(), long)
+	defer cancel()
+	for g.nodes[gone].Err() == nil && ctx.Err() == nil { // (the leader may end before it hears)
+		if err := g.nodes[gone].Remove(ctx, gone); err != nil && err != engine.ErrUnknown && err != engine.ErrNoLeader {
+			g.t.Fatal(err)
+		}
+	}
+	eventually(g.t, "the removed member ends", func() bool {
 		select {
 		case <-g.nodes[gone].Done():
 			return true
@@ -611,13 +642,23 @@ func TestMembersComeAndGo(t *testing.T) {
 		}
 	})
 	if err := g.nodes[gone].Err(); err != engine.ErrRemoved {
-		t.Fatal(err)
+		g.t.Fatal(err)
 	}
 	delete(g.nodes, gone)
-	proposeAll(t, g.nodes[g.other(gone)], texts(11, 12))
-	g.alike(texts(1, 12))
-	if err := g.nodes[g.leader()].Add(ctx, g.members[gone-1]); gone <= 3 && (err == nil || !strings.Contains(err.Error(), "not used again")) {
-		t.Fatal(err)
+	return gone
+}
+
+// A change that is asked for as soon as the last one is told is made, or refused: raft takes only one at a time.
+func TestChangesOfMembersFollowAtOnce(t *testing.T) {
+	t.Parallel()
+	g := groupOf(t, 3)
+	propose(t, g.nodes[1], "entry 1")
+	for round := 0; round < 30; round++ {
+		n := g.nodes[uint64(round%3+1)]
+		err, _ := g.heard(func(ctx context.Context, _ *Node) error { return n.Remove(ctx, 9) })
+		if err != engine.Refused("there is no member 9") {
+			t.Fatalf("round %d: %v", round, err)
+		}
 	}
 }
 
@@ -626,11 +667,11 @@ func TestAFolderThatWasBegunAloneIsNotTakenIn(t *testing.T) {
 	t.Parallel()
 	g := groupOf(t, 3)
 	proposeAll(t, g.nodes[1], texts(1, 5))
-	member := engine.Member{ID: 4, Peer: address(t), Client: "127.0.0.1:1"}
+	member := engine.Member{ID: 4, Peer: testports.Free(t), Client: "127.0.0.1:1"}
 	cfg, _ := configOf(t, t.TempDir(), member, member)
 	n, _ := begin(t, cfg)
 	propose(t, n, "another entry")
-	g.must(g.nodes[g.leader()].Add, member)
+	g.must(member)
 	proposeAll(t, g.nodes[g.leader()], texts(6, 9))
 	g.alike(texts(1, 9))
 	for round := 0; round < 2; round++ {
@@ -648,9 +689,9 @@ func TestOneMemberGrowsToThree(t *testing.T) {
 	cfg, _ := configOf(t, t.TempDir(), alone, alone)
 	n, _ := begin(t, cfg)
 	proposeAll(t, n, texts(1, 5))
-	ctx, cancel := context.WithTimeout(context.Background(), 10*time.Second)
+	ctx, cancel := context.WithTimeout(context.Background(), long)
 	defer cancel()
-	if err := n.Add(ctx, engine.Member{ID: 2, Peer: address(t)}); err == nil || !strings.Contains(err.Error(), "--peer") {
+	if err := n.Add(ctx, engine.Member{ID: 2, Peer: testports.Free(t)}); err == nil || !strings.Contains(err.Error(), "--peer") {
 		t.Fatal(err)
 	}
 	if err := n.Snapshot(); err != nil { // from before the others are added
@@ -658,7 +699,7 @@ func TestOneMemberGrowsToThree(t *testing.T) {
 	}
 	eventually(t, "a snapshot is made", func() bool { return n.Status().Snapshot > 0 })
 	n.Close()
-	self := engine.Member{ID: 1, Peer: address(t), Client: "127.0.0.1:1"}
+	self := engine.Member{ID: 1, Peer: testports.Free(t), Client: "127.0.0.1:1"}
 	g := &group{t: t, configs: map[uint64]Config{}, nodes: map[uint64]*Node{}, machines: map[uint64]*list{}}
 	cfg.Self, cfg.Members, cfg.Listen = self, []engine.Member{self}, self.Peer
 	g.configs[1] = cfg
