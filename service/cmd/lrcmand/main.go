@@ -63,7 +63,7 @@ func run(o *options, logger *log.Logger) int {
 	server := f.Server()
 	server.Handler = shown.metrics.Wrap(f)
 	go serve(server, listener, config, logger)
-	logger.Printf("member %d serves %s, rules %d", o.id, o.listen, book.Rules())
+	logger.Printf("member %d serves %s, rules %d", o.id, o.listen, state.LibraryRules())
 	status := wait(node, logger)
 	shown.stop()
 	f.Stop()

@@ -26,6 +26,7 @@ var statuses = map[state.Refusal]int{
 	state.Moved:        http.StatusConflict,
 	state.OutOfRange:   http.StatusBadRequest,
 	state.OtherRules:   http.StatusServiceUnavailable,
+	state.NotChanged:   http.StatusConflict,
 }
 
 // made is the answer to one who made a book, or began it over other nodes.

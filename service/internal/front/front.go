@@ -153,6 +153,8 @@ func init() {
 		{"PUT", "members/{id}", Operate, "", (*request).addMember},
 		{"DELETE", "members/{id}", Operate, "", (*request).removeMember},
 		{"POST", "snapshot", Operate, "", (*request).snapshot},
+		{"GET", "rules", Look, "", (*request).rules},
+		{"PUT", "rules", Operate, "", (*request).changeRules},
 		{"GET", "books", Look, "now", (*request).books},
 		{"PUT", "books/{book}", Operate, "", (*request).create},
 		{"GET", "books/{book}", Look, "now", (*request).bookStatus},

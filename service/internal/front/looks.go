@@ -20,6 +20,7 @@ func (f *Front) refresh() {
 		ctx, cancel := context.WithTimeout(context.Background(), f.Timeout)
 		f.barrier(ctx) // (if nobody answers, what looks tell grows older)
 		cancel()
+		f.saveChange()
 		select {
 		case <-time.After(freshTime):
 		case <-f.stop:

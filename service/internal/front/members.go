@@ -26,7 +26,7 @@ func (q *request) version() error {
 		Interface uint32 `json:"interface"`
 		Rules     uint32 `json:"rules"`
 		Go        string `json:"go"`
-	}{1, state.Form, book.Interface(), book.Rules(), runtime.Version()})
+	}{1, state.Form, book.Interface(), state.LibraryRules(), runtime.Version()})
 }
 
 func (q *request) status() error {
@@ -35,7 +35,7 @@ func (q *request) status() error {
 		Age     int64          `json:"age_ms"`
 		Rules   uint32         `json:"rules"`
 		Refused map[int]uint64 `json:"refused"`
-	}{q.Engine.Status(), sayAge(q.Front, atomic.LoadInt64(&q.fresh)), book.Rules(), q.Refused()})
+	}{q.Engine.Status(), sayAge(q.Front, atomic.LoadInt64(&q.fresh)), state.LibraryRules(), q.Refused()})
 }
 
 func (q *request) members() error {

@@ -17,6 +17,8 @@ const (
 	Call   Action = 1 // one command in a book
 	Create Action = 2 // a book over nodes, perhaps begun in an image
 	Reopen Action = 3 // a book goes on over other nodes
+	// ChangeRules makes the group go to other rules. Programs of all rules take it.
+	ChangeRules Action = 4
 )
 
 // An Item is one request that changes books. The log carries items.
@@ -30,6 +32,7 @@ type Item struct {
 	At      *Place // of a call: nil, or where the book has to stand
 	Nodes   []byte // of Create and Reopen
 	Image   []byte // of Create: nil, or the image to begin in
+	Rules   uint32 // of ChangeRules
 }
 
 // A Place is where a book stands: the number of its entries, and how often it was begun over nodes or an image.
@@ -40,7 +43,7 @@ const Form = 1
 
 // Encode makes the payload of one entry of the log: the form, the rules of this member's library, and the items.
 func Encode(items []*Item) []byte {
-	b := binary.AppendUvarint([]byte{Form}, uint64(book.Rules()))
+	b := binary.AppendUvarint([]byte{Form}, uint64(libraryRules()))
 	b = binary.AppendUvarint(b, uint64(len(items)))
 	for _, item := range items {
 		b = append(b, byte(item.Action))
@@ -53,6 +56,8 @@ func Encode(items []*Item) []byte {
 			b = appendBytes(b, item.Image)
 		case Reopen:
 			b = appendBytes(b, item.Nodes)
+		case ChangeRules:
+			b = binary.AppendUvarint(b, uint64(item.Rules))
 		}
 	}
 	return b
@@ -148,6 +153,8 @@ func (r *reader) item() *Item {
 		item.Image = r.bytes()
 	case Reopen:
 		item.Nodes = r.bytes()
+	case ChangeRules:
+		item.Rules = uint32(r.number())
 	default:
 		r.isBad = true
 	}

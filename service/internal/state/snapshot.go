@@ -33,18 +33,21 @@ func checksum(texts ...[]byte) []byte {
 // of that one. So an image may be newer than the index of its snapshot: it has an index of its own, and Apply passes over the
 // entries that it has.
 func (s *State) Freeze() func(io.Writer) error {
-	names, rules := s.Names(), s.Rules()
-	return func(to io.Writer) error { return s.save(to, names, rules) }
+	names, change := s.Names(), s.Change()
+	return func(to io.Writer) error { return s.save(to, names, change) }
 }
 
-func (s *State) save(to io.Writer, names []string, rules uint32) error {
+func (s *State) save(to io.Writer, names []string, change Change) error {
 	s.write.Lock()
 	defer s.write.Unlock()
 	w := bufio.NewWriterSize(to, 1<<18)
 	if _, err := w.WriteString(magic); err != nil {
 		return err
 	}
-	head := binary.AppendUvarint(binary.AppendUvarint(nil, uint64(rules)), uint64(len(names)))
+	var head []byte
+	for _, number := range []uint64{uint64(change.Rules), uint64(change.Next), change.Asked, uint64(len(names))} {
+		head = binary.AppendUvarint(head, number)
+	}
 	if err := writeRecord(w, head); err != nil {
 		return err
 	}
@@ -157,7 +160,7 @@ func (o *one) appendHolders(b []byte) []byte {
 func (s *State) Restore(from io.Reader) error {
 	s.write.Lock()
 	defer s.write.Unlock()
-	books, rules, err := readBooks(bufio.NewReaderSize(from, 1<<18))
+	books, group, err := s.readBooks(bufio.NewReaderSize(from, 1<<18))
 	if err != nil {
 		for _, o := range books {
 			o.book.Close()
@@ -167,7 +170,7 @@ func (s *State) Restore(from io.Reader) error {
 	s.entry.Lock()
 	s.mu.Lock()
 	old := s.books
-	s.books, s.rules = books, rules
+	s.books, s.group = books, group
 	s.mu.Unlock()
 	s.entry.Unlock()
 	for _, o := range old { // a look may still be under way in one of them
@@ -180,36 +183,36 @@ func (s *State) Restore(from io.Reader) error {
 	return nil
 }
 
-func readBooks(r io.Reader) (map[string]*one, uint32, error) {
+func (s *State) readBooks(r io.Reader) (books map[string]*one, of group, err error) {
 	mark := make([]byte, len(magic))
 	if _, err := io.ReadFull(r, mark); err != nil {
-		return nil, 0, damaged(err)
+		return nil, of, damaged(err)
 	}
 	if string(mark) != magic {
-		return nil, 0, damaged(fmt.Errorf("it begins with %q and not with %q", mark, magic))
+		return nil, of, damaged(fmt.Errorf("it begins with %q and not with %q", mark, magic))
 	}
 	head, err := readRecord(r)
 	if err != nil {
-		return nil, 0, err
+		return nil, of, err
 	}
-	rules, count := uint32(head.number()), head.number()
-	if rules != 0 && rules != book.Rules() {
-		return nil, 0, fmt.Errorf("the snapshot is of rules %d, and this library has rules %d: nothing of it was read",
-			rules, book.Rules())
+	of.rules, of.next, of.asked = uint32(head.number()), uint32(head.number()), head.number()
+	count := head.number()
+	if err := of.begins(s.ours); err != nil {
+		return nil, of, err
 	}
-	books := map[string]*one{}
+	books = map[string]*one{}
 	for ; count > 0; count-- {
 		record, err := readRecord(r)
 		if err != nil {
-			return books, 0, err
+			return books, of, err
 		}
 		name, o, err := record.book()
 		if err != nil {
-			return books, 0, err
+			return books, of, err
 		}
 		books[name] = o
 	}
-	return books, rules, nil
+	return books, of, nil
 }
 
 func (r *reader) book() (string, *one, error) {

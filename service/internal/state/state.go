@@ -34,7 +34,8 @@ const (
 	KeyReused                       // the key came with another call
 	Moved                           // the book does not stand where the caller saw it
 	OutOfRange                      // a number is out of its range
-	OtherRules                      // the member that proposed it has other rules
+	OtherRules                      // the member that proposed it has other rules, or the group goes to others
+	NotChanged                      // there are no rules yet to go on from
 )
 
 // An Answer is what an item was answered.
@@ -87,12 +88,13 @@ type State struct {
 	entry sync.Mutex   // held while an entry is applied: no image is taken in the middle of one
 	mu    sync.RWMutex // of the map and the rules; each book has a lock of its own
 	books map[string]*one
-	rules uint32     // of the first entry: those of the group; 0 before it
+	group group
+	ours  uint32     // the rules of this library
 	write sync.Mutex // held while a snapshot is written, and by a restore
 }
 
 // New is the state before the first entry.
-func New() *State { return &State{books: map[string]*one{}} }
+func New() *State { return &State{books: map[string]*one{}, ours: libraryRules()} }
 
 // Apply makes the changes of one entry of the log, and returns a []Answer with one for each item. Entries come one after the
 // other, with rising indexes. An error means that this member can't go on: its books would not be those of the others.
@@ -112,17 +114,15 @@ func (s *State) answers(index uint64, payload []byte) ([]Answer, error) {
 		return nil, fmt.Errorf("entry %d of the log can't be applied: %w", index, err)
 	}
 	answers := make([]Answer, len(items))
-	if group := s.agree(rules); group != rules {
-		for i := range answers {
-			answers[i] = refuse(OtherRules, fmt.Sprintf("the member has rules %d, and the group has rules %d", rules, group))
-		}
-		return answers, nil
-	}
-	if rules != book.Rules() {
-		return nil, fmt.Errorf("entry %d of the log is of rules %d, and this library has rules %d: nothing of it was applied",
-			index, rules, book.Rules())
-	}
 	for i, item := range items {
+		refused := s.judge(index, rules, item, &answers[i])
+		if refused {
+			continue
+		}
+		if rules != s.ours {
+			return nil, fmt.Errorf("entry %d of the log is of rules %d, and this library has rules %d: nothing of it was applied",
+				index, rules, s.ours)
+		}
 		if answers[i], err = s.apply(index, item); err != nil {
 			return nil, fmt.Errorf("entry %d of the log, book %s, %v: %w", index, item.Book, item.Command, err)
 		}
@@ -130,14 +130,20 @@ func (s *State) answers(index uint64, payload []byte) ([]Answer, error) {
 	return answers, nil
 }
 
-// agree returns the rules of the group, which are those of its first entry.
-func (s *State) agree(rules uint32) uint32 {
+// judge answers what needs no library: a change of the rules, and an item of a member whose rules are not those of the group. It
+// returns false for what is to be applied.
+func (s *State) judge(index uint64, rules uint32, item *Item, answer *Answer) bool {
 	s.mu.Lock()
 	defer s.mu.Unlock()
-	if s.rules == 0 {
-		s.rules = rules
+	if item.Action == ChangeRules {
+		*answer = s.group.change(index, item.Rules)
+		return true
 	}
-	return s.rules
+	if why := s.group.agree(rules); why != "" {
+		*answer = refuse(OtherRules, why)
+		return true
+	}
+	return false
 }
 
 func refuse(refusal Refusal, words string) Answer { return Answer{Refusal: refusal, Words: words} }
@@ -486,11 +492,4 @@ func (s *State) Names() []string {
 	}
 	sort.Strings(names)
 	return names
-}
-
-// Rules are those of the group; 0 before its first entry.
-func (s *State) Rules() uint32 {
-	s.mu.RLock()
-	defer s.mu.RUnlock()
-	return s.rules
 }

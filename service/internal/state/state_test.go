@@ -355,16 +355,71 @@ func TestOtherRulesAreRefusedByName(t *testing.T) {
 }
 
 func TestASnapshotOfOtherRulesIsRefusedByName(t *testing.T) {
-	var text bytes.Buffer
-	text.WriteString(magic)
-	if err := writeRecord(&text, []byte{byte(book.Rules() + 1), 0}); err != nil {
-		t.Fatal(err)
-	}
-	err := New().Restore(&text)
-	want := fmt.Sprintf("is of rules %d, and this library has rules %d", book.Rules()+1, book.Rules())
+	other := New()
+	other.ours++
+	err := other.Restore(bytes.NewReader(newPlayer(t).snapshot()))
+	want := fmt.Sprintf("is of rules %d, and this library has rules %d", book.Rules(), book.Rules()+1)
 	if err == nil || errors.Is(err, engine.ErrDamaged) || !strings.Contains(err.Error(), want) {
 		t.Error(err)
 	}
+}
+
+// other is a player with the state of a snapshot, and with a library of other rules.
+func (p *player) other(rules uint32, snapshot []byte) *player {
+	p.t.Helper()
+	o := &player{t: p.t, s: New(), index: p.index}
+	o.s.ours = rules
+	if err := o.s.Restore(bytes.NewReader(snapshot)); err != nil {
+		p.t.Fatal(err)
+	}
+	return o
+}
+
+func TestAGroupGoesToOtherRules(t *testing.T) {
+	ours, next := book.Rules(), book.Rules()+1
+	p := newPlayer(t)
+	p.call("place 1")
+	if answer := p.item(&Item{Action: ChangeRules, Rules: ours}); !answer.IsAgain || answer.Refusal != 0 {
+		t.Errorf("to its own rules: %+v", answer)
+	}
+	p.item(&Item{Action: ChangeRules, Rules: next})
+	if have := p.s.Change(); have != (Change{ours, next, 4}) {
+		t.Errorf("%+v", have)
+	}
+	words := fmt.Sprintf("the group goes from rules %d to rules %d, and this member has rules %d", ours, next, ours)
+	p.refused(p.call("tick"), OtherRules, words)
+	o := p.other(next, p.snapshot())
+	o.refused(o.call("tick"), OtherRules, words) // (an entry of a member with the rules of before)
+	p.refused(p.call("tick"), OtherRules, words)
+	entry := withRules(byte(next), call(t, "tick"))
+	answers, err := o.s.Apply(o.index+1, entry)
+	if err != nil {
+		t.Fatal(err)
+	}
+	o.expect(answers.([]Answer)[0], 2, "ticked 1 0")
+	if have := o.s.Change(); have != (Change{Rules: next}) {
+		t.Errorf("%+v", have)
+	}
+	want := fmt.Sprintf("is of rules %d, and this library has rules %d", next, ours)
+	if _, err := p.s.Apply(p.index+1, entry); err == nil || !strings.Contains(err.Error(), want) {
+		t.Errorf("a member that was not restarted: %v", err)
+	}
+	o.index++
+	o.refused(o.call("tick"), OtherRules, fmt.Sprintf("the member has rules %d, and the group has rules %d", ours, next))
+}
+
+func TestAChangeOfRulesIsTakenBack(t *testing.T) {
+	ours := book.Rules()
+	p := newPlayer(t)
+	p.item(&Item{Action: ChangeRules, Rules: ours + 1})
+	p.item(&Item{Action: ChangeRules, Rules: ours + 2})
+	if have := p.s.Change(); have != (Change{ours, ours + 2, 3}) {
+		t.Errorf("%+v", have)
+	}
+	p.item(&Item{Action: ChangeRules, Rules: ours})
+	p.expect(p.call("tick"), 1, "ticked 1 0")
+	none := &player{t: t, s: New()}
+	none.refused(none.item(&Item{Action: ChangeRules, Rules: ours + 1}), NotChanged, "before its first book")
 }
 
 func TestAnEntryThatIsDamagedIsRefused(t *testing.T) {
