@@ -172,21 +172,31 @@ func init() {
 	}
 }
 
-// match gives the names of a path, if it is that of the route.
-func (t *route) match(path string) (map[string]string, bool) {
-	words, wanted := strings.Split(path, "/"), strings.Split(t.path, "/")
-	if len(words) != len(wanted) {
-		return nil, false
+// match tells whether a path is that of the route. (It asks for no memory: each request is held against many routes)
+func (t *route) match(path string) bool {
+	wanted := t.path
+	for {
+		word, rest, isLonger := strings.Cut(path, "/")
+		want, wantRest, wantsLonger := strings.Cut(wanted, "/")
+		if isLonger != wantsLonger || want != word && !strings.HasPrefix(want, "{") {
+			return false
+		}
+		if !isLonger {
+			return true
+		}
+		path, wanted = rest, wantRest
 	}
-	names := map[string]string{}
-	for i, word := range wanted {
+}
+
+// names are those of a path that matches.
+func (t *route) names(path string) map[string]string {
+	names, words := map[string]string{}, strings.Split(path, "/")
+	for i, word := range strings.Split(t.path, "/") {
 		if strings.HasPrefix(word, "{") {
 			names[word[1:len(word)-1]] = words[i]
-		} else if word != words[i] {
-			return nil, false
 		}
 	}
-	return names, true
+	return names
 }
 
 // find is the route of a request, with the names of its path.
@@ -194,11 +204,11 @@ func (f *Front) find(r *http.Request) (*route, map[string]string, error) {
 	path := strings.TrimPrefix(r.URL.Path, "/")
 	var methods []string
 	for i := range f.routes {
-		names, isIt := f.routes[i].match(path)
-		if isIt && f.routes[i].method == r.Method {
-			return &f.routes[i], names, nil
+		route := &f.routes[i]
+		if isIt := route.match(path); isIt && route.method == r.Method {
+			return route, route.names(path), nil
 		} else if isIt {
-			methods = append(methods, f.routes[i].method)
+			methods = append(methods, route.method)
 		}
 	}
 	if methods != nil {

@@ -4,6 +4,7 @@ import (
 	"context"
 	"encoding/binary"
 	"fmt"
+	"sort"
 	"sync/atomic"
 	"time"
 
@@ -72,8 +73,13 @@ func (n *Node) serve(ready raft.Ready) bool {
 	n.note(ready)
 	// 1. A leader may send before it saves: its followers save beside it. It hears of no commit before it has saved,
 	// since the next Ready comes only after Advance. Everybody else saves first: a vote or an acknowledgement is a promise.
+	isMember, committed := true, ready.CommittedEntries
 	if n.isLeader {
 		n.send(ready.Messages)
+		// What was saved before is applied and told now, so it does not wait for the sync of what came behind it.
+		var saved []raftpb.Entry
+		saved, committed = split(committed, ready.Entries)
+		isMember = n.apply(saved)
 	}
 	// 2. A snapshot before the hard state that counts on it: else a crash leaves a log that no start can read.
 	if !raft.IsEmptySnap(ready.Snapshot) {
@@ -86,12 +92,12 @@ func (n *Node) serve(ready raft.Ready) bool {
 	}
 	n.must("the log can't be kept", n.storage.Append(ready.Entries))
 	// 4. Whoever counts votes must know the members of the entries that are committed: so these first, if there are some.
-	changesMembers := hasChange(ready.CommittedEntries)
+	changesMembers := hasChange(committed)
 	if !n.isLeader && !changesMembers {
 		n.send(ready.Messages)
 	}
 	n.giveReads(ready.ReadStates)
-	isMember := n.apply(ready.CommittedEntries)
+	isMember = n.apply(committed) && isMember
 	if !n.isLeader && changesMembers {
 		n.send(ready.Messages)
 	}
@@ -121,6 +127,15 @@ func (n *Node) note(ready raft.Ready) {
 		atomic.StoreUint64(&n.term, ready.HardState.Term)
 		atomic.StoreUint64(&n.commit, ready.HardState.Commit)
 	}
+}
+
+// split gives the committed entries that were saved before, and those that are among the new ones.
+func split(committed, unsaved []raftpb.Entry) (before, among []raftpb.Entry) {
+	if len(unsaved) == 0 {
+		return committed, nil
+	}
+	count := sort.Search(len(committed), func(i int) bool { return committed[i].Index >= unsaved[0].Index })
+	return committed[:count], committed[count:]
 }
 
 func hasChange(entries []raftpb.Entry) bool {

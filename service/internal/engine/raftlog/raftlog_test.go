@@ -18,6 +18,7 @@ import (
 	"time"
 
 	"go.etcd.io/etcd/pkg/transport"
+	"go.etcd.io/etcd/raft/raftpb"
 	"go.etcd.io/etcd/wal"
 
 	"lrcman/service/internal/engine"
@@ -768,5 +769,33 @@ func TestMembersShowEachOtherCertificates(t *testing.T) {
 	}
 	if have := machine.all(); len(have) > 5 {
 		t.Errorf("a stranger heard of %q", have[5:])
+	}
+}
+
+// entries are those of the given indexes.
+func entries(indexes ...uint64) (all []raftpb.Entry) {
+	for _, index := range indexes {
+		all = append(all, raftpb.Entry{Index: index})
+	}
+	return all
+}
+
+func TestOnlyWhatWasSavedIsAppliedBeforeASave(t *testing.T) {
+	for _, it := range []struct {
+		committed, unsaved []raftpb.Entry
+		before             int
+	}{
+		{entries(), entries(), 0},
+		{entries(3, 4), entries(), 2},
+		{entries(3, 4), entries(5, 6), 2},
+		{entries(3, 4), entries(4, 5), 1},
+		{entries(3, 4), entries(3, 4), 0},
+		{entries(), entries(3), 0},
+	} {
+		before, among := split(it.committed, it.unsaved)
+		all := append(append([]raftpb.Entry(nil), before...), among...)
+		if len(before) != it.before || len(all) != len(it.committed) || len(all) > 0 && !reflect.DeepEqual(all, it.committed) {
+			t.Errorf("%v of which %v are not saved: %v and %v", it.committed, it.unsaved, before, among)
+		}
 	}
 }
