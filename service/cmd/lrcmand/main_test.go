@@ -54,7 +54,7 @@ func TestTheCommandLineIsReadOrRefused(t *testing.T) {
 		"--data d --client-ca c":                 "--client-ca with both",
 		"--data d --peer-cert c --peer-key k":    "--peer-cert, --peer-key and --peer-ca come together",
 		"--data d --token-file " + folder + "/x": "no such file",
-		"--help":                                 "usage: lrcmand --data DIR",
+		"--help":                                 "usage: lrcmand --data DIR [OPTIONS], or lrcmand ctl WORDS",
 
 		"--data d": "",
 		"--data d --listen 127.0.0.1:1 --peer [::1]:2 --tick 0": "",

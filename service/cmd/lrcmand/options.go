@@ -76,7 +76,7 @@ func usage(flags *flag.FlagSet) error {
 	flags.SetOutput(&text)
 	flags.PrintDefaults()
 	list := strings.TrimRight(text.String(), "\n")
-	return errors.New("usage: lrcmand --data DIR [OPTIONS]; docs/SERVICE.md describes them\n" + list)
+	return errors.New("usage: lrcmand --data DIR [OPTIONS], or lrcmand ctl WORDS; docs/SERVICE.md describes them\n" + list)
 }
 
 func (o *options) check() error {

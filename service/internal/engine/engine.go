@@ -46,6 +46,8 @@ var (
 	ErrUnknown = errors.New("nobody knows whether it was made")
 	// ErrNoLeader says that nothing was proposed, or asked.
 	ErrNoLeader = errors.New("there is no leader")
+	// ErrNotMoved says that the leadership was not moved in time.
+	ErrNotMoved = errors.New("the member does not lead yet")
 	// ErrEnded says that this member has ended, or is ending.
 	ErrEnded = errors.New("this member has ended")
 	// ErrRemoved says that a member ended since it is no longer one of the group.
@@ -73,6 +75,9 @@ type Engine interface {
 	// Add adds a member, and Remove removes one. The error is a Refused if the change is not lawful.
 	Add(ctx context.Context, member Member) error
 	Remove(ctx context.Context, id uint64) error
+	// Lead makes a member the leader, and returns once it is, as far as this one knows. It may take long if that member is
+	// behind, and it fails if the context ends before. The error is a Refused if there is no such member.
+	Lead(ctx context.Context, id uint64) error
 	// Snapshot begins to write one now.
 	Snapshot() error
 	// Done is closed when the engine has ended, by Close or by itself, and Err says why; nil after Close.

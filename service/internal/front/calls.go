@@ -77,6 +77,26 @@ func (q *request) reopen() error {
 	return q.say(http.StatusOK, made{answer.Made, answer.Opens, answer.IsAgain})
 }
 
+// remove ends a book that stands where the caller saw it.
+func (q *request) remove() error {
+	if _, err := isJSON(q.r, false); err != nil {
+		return err
+	}
+	text, err := q.body(mostCall)
+	if err != nil {
+		return err
+	}
+	at, err := placeOf(text)
+	if err != nil {
+		return err
+	}
+	answer, err := q.answerOf(&state.Item{Action: state.Remove, Book: q.names["book"], At: at})
+	if err != nil {
+		return err
+	}
+	return q.say(http.StatusOK, made{Made: answer.Made, Opens: answer.Opens})
+}
+
 // forWorkers are the commands that the role of workers may call.
 var forWorkers = map[book.Kind]bool{book.Place: true, book.Place6: true, book.Drop: true, book.Lease: true, book.Next: true,
 	book.Done: true, book.Abandon: true}

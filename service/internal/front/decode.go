@@ -196,6 +196,23 @@ func createOf(text []byte, name string, isJSON bool) (*state.Item, error) {
 	return item, nil
 }
 
+// A placeBody is the body that removes a book: where it stood when it was looked at.
+type placeBody struct {
+	At    *uint64 `json:"at"`
+	Opens *uint64 `json:"opens"`
+}
+
+func placeOf(text []byte) (*state.Place, error) {
+	var body placeBody
+	if err := decode(text, &body); err != nil {
+		return nil, err
+	}
+	if body.At == nil || body.Opens == nil {
+		return nil, bad("the fields \"at\" and \"opens\" are needed: the \"n\" and the \"opens\" of a look at the book")
+	}
+	return &state.Place{Made: *body.At, Opens: *body.Opens}, nil
+}
+
 // A memberBody is the body that adds a member.
 type memberBody struct {
 	Peer   string `json:"peer"`

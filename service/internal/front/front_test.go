@@ -68,6 +68,13 @@ func (l *local) Add(_ context.Context, member engine.Member) error {
 	return nil
 }
 
+func (l *local) Lead(_ context.Context, id uint64) error {
+	if id != 1 {
+		return engine.ErrNotMoved
+	}
+	return nil
+}
+
 func (l *local) Remove(context.Context, uint64) error { return engine.ErrUnknown }
 func (l *local) Snapshot() error                      { return engine.ErrBusy }
 func (l *local) Done() <-chan struct{}                { return l.done }
@@ -211,7 +218,17 @@ func TestBadRequestsAreRefusedByName(t *testing.T) {
 		{"GET", "/books/p9", "", 404, "there is no such book"},
 		{"POST", "/books/p9/call", `{"command":"tick"}`, 404, "there is no book p9"},
 		{"POST", "/books", "", 405, "this takes GET"},
-		{"DELETE", "/books/p0", "", 405, "this takes PUT, GET"},
+		{"POST", "/books/p0", "", 405, "this takes PUT, DELETE, GET"},
+		{"DELETE", "/books/p0", "", 415, "has to be application/json"},
+		{"DELETE", "/books/p0", `{}`, 400, `the fields "at" and "opens" are needed`},
+		{"DELETE", "/books/p0", `{"at":0}`, 400, `the fields "at" and "opens" are needed`},
+		{"DELETE", "/books/p0", `{"at":0,"opens":1,"force":true}`, 400, `there is no field "force"`},
+		{"DELETE", "/books/p0", `{"at":1,"opens":1}`, 409, "the book stands at 0, opened 1 times"},
+		{"DELETE", "/books/p0", `{"at":0,"opens":2}`, 409, "the book stands at 0, opened 1 times"},
+		{"DELETE", "/books/p9", `{"at":0,"opens":1}`, 404, "there is no book p9"},
+		{"POST", "/leader/0", "", 400, "the number of a member"},
+		{"POST", "/leader/2", "", 503, "the member does not lead yet"},
+		{"GET", "/leader/1", "", 405, "this takes POST"},
 		{"POST", "/books/p0/call", `{"command":"tick","sesion":1}`, 400, `there is no field "sesion"`},
 		{"POST", "/books/p0/call", `{"COMMAND":"tick"}`, 400, `there is no field "COMMAND"`},
 		{"POST", "/books/p0/call", `{"command":"tick","key":"a","key":"b"}`, 400, `the field "key" comes twice`},
@@ -273,7 +290,7 @@ func TestBadRequestsAreRefusedByName(t *testing.T) {
 	}
 	s.expect("GET", "/books/p0/log", "", 200, "") // none of them was an entry
 	counts := s.front.Refused()
-	if counts[404] != 10 || counts[413] != 1 || counts[405] != 2 {
+	if counts[404] != 11 || counts[413] != 1 || counts[405] != 3 {
 		t.Errorf("counted: %v", counts)
 	}
 }
@@ -539,6 +556,8 @@ func TestRolesAllowWhatThePageSays(t *testing.T) {
 		{"PUT", "/books/p0/nodes", nodes(5), 403, 403, 200},
 		{"PUT", "/members/2", `{"peer":"h:1","client":"h:2"}`, 403, 403, 200},
 		{"DELETE", "/members/2", "", 403, 403, 504},
+		{"DELETE", "/books/p1", `{"at":0,"opens":1}`, 403, 403, 200},
+		{"POST", "/leader/1", "", 403, 403, 200},
 		{"POST", "/snapshot", "", 403, 403, 503},
 	} {
 		s.refused(it.method, it.path, it.body, 401, "no token")
@@ -609,6 +628,42 @@ func TestTheLeaderTicksBooksWithLeases(t *testing.T) {
 	if _, text := s.ask("GET", "/books/p0/log?from=6", ""); strings.Count(text, "\n") != 1 {
 		t.Errorf("of another leader: %s", text)
 	}
+}
+
+func TestABookIsRemoved(t *testing.T) {
+	s := newService(t, nil)
+	s.call("tick")
+	s.expect("POST", "/books/p0/call", `{"command":"tick","key":"k"}`, 200,
+		`{"n":2,"opens":1,"reply":"ticked 2 0","kind":"ticked","clock":2,"ended":0}`)
+	next, end := s.lines("/books/p0/log?follow=1&from=1")
+	defer end()
+	if entry := next(); entry.Made != 2 {
+		t.Errorf("%+v", entry)
+	}
+	s.refused("DELETE", "/books/p0", `{"at":1,"opens":1}`, 409, "the book stands at 2")
+	s.expect("DELETE", "/books/p0", `{"at":2,"opens":1}`, 200, `{"n":2,"opens":1}`)
+	if entry := next(); entry.Made != 0 || entry.Command != "" {
+		t.Errorf("the stream goes on: %+v", entry)
+	}
+	s.refused("GET", "/books/p0", "", 404, "there is no such book")
+	s.refused("DELETE", "/books/p0", `{"at":2,"opens":1}`, 404, "there is no book p0")
+	s.expect("PUT", "/books/p0", nodes(5), 200, `{"n":0,"opens":1}`) // other nodes: nothing of the old one is left
+	s.expect("POST", "/books/p0/call", `{"command":"tick","key":"k"}`, 200,
+		`{"n":1,"opens":1,"reply":"ticked 1 0","kind":"ticked","clock":1,"ended":0}`)
+}
+
+// A removal that perhaps was made is not made again: a book that was made under the name meanwhile would be removed.
+func TestARemovalIsNotTriedAgain(t *testing.T) {
+	s := newService(t, nil)
+	proposals := 0
+	s.engine.mu.Lock()
+	s.engine.wrong = func([]byte) (bool, error) { proposals++; return true, engine.ErrUnknown }
+	s.engine.mu.Unlock()
+	s.refused("DELETE", "/books/p0", `{"at":0,"opens":1}`, 504, "nobody knows whether it was made")
+	if proposals != 1 {
+		t.Errorf("it was proposed %d times", proposals)
+	}
+	s.refused("GET", "/books/p0", "", 404, "there is no such book")
 }
 
 func TestVersionAndMembers(t *testing.T) {

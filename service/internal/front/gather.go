@@ -141,7 +141,12 @@ func (f *Front) proposeItems(items []*state.Item) ([]state.Answer, error) {
 // areOnce tells whether each of the items, if it comes twice, is made once.
 func areOnce(items []*state.Item) bool {
 	for _, item := range items {
-		if item.Action == state.Call && item.Key == "" || item.Action == state.Reopen {
+		switch item.Action {
+		case state.Call:
+			if item.Key == "" {
+				return false
+			}
+		case state.Reopen, state.Remove:
 			return false
 		}
 	}

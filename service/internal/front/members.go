@@ -92,6 +92,18 @@ func (q *request) removeMember() error {
 	return q.members()
 }
 
+// lead answers once the member of the path leads.
+func (q *request) lead() error {
+	id, err := q.memberID()
+	if err != nil {
+		return err
+	}
+	if err := q.Engine.Lead(q.ctx, id); err != nil {
+		return err
+	}
+	return q.members()
+}
+
 func (q *request) snapshot() error {
 	if err := q.Engine.Snapshot(); err != nil {
 		return err

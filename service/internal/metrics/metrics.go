@@ -36,6 +36,9 @@ type Metrics struct {
 	requests *prometheus.CounterVec
 	duration *prometheus.HistogramVec
 	calls    *prometheus.HistogramVec
+	names    func() []string
+	mu       sync.Mutex
+	called   map[string]bool // the books that have a histogram of calls
 }
 
 var seconds = []float64{.001, .002, .005, .01, .02, .05, .1, .2, .5, 1, 2, 5, 10}
@@ -43,7 +46,7 @@ var seconds = []float64{.001, .002, .005, .01, .02, .05, .1, .2, .5, 1, 2, 5, 10
 // New makes metrics.
 func New(from Sources) *Metrics {
 	m := &Metrics{
-		registry: prometheus.NewRegistry(),
+		names: from.Watcher.Names, called: map[string]bool{}, registry: prometheus.NewRegistry(),
 		requests: prometheus.NewCounterVec(prometheus.CounterOpts{Name: "lrcmand_http_requests_total",
 			Help: "Requests that were answered, by route and status."}, []string{"route", "status"}),
 		duration: prometheus.NewHistogramVec(prometheus.HistogramOpts{Name: "lrcmand_http_request_duration_seconds",
@@ -64,7 +67,35 @@ func number(n uint32) string { return strconv.FormatUint(uint64(n), 10) }
 
 // Handler answers with the metrics as they are.
 func (m *Metrics) Handler() http.Handler {
-	return promhttp.HandlerFor(m.registry, promhttp.HandlerOpts{MaxRequestsInFlight: 4, EnableOpenMetrics: true})
+	tell := promhttp.HandlerFor(m.registry, promhttp.HandlerOpts{MaxRequestsInFlight: 4, EnableOpenMetrics: true})
+	return http.HandlerFunc(func(w http.ResponseWriter, r *http.Request) {
+		m.forgetRemoved()
+		tell.ServeHTTP(w, r)
+	})
+}
+
+// forgetRemoved drops the histograms of books that were removed: else they would be told for ever.
+func (m *Metrics) forgetRemoved() {
+	there := map[string]bool{}
+	for _, name := range m.names() {
+		there[name] = true
+	}
+	m.mu.Lock()
+	defer m.mu.Unlock()
+	for name := range m.called {
+		if !there[name] {
+			m.calls.DeleteLabelValues(name)
+			delete(m.called, name)
+		}
+	}
+}
+
+// noteCall notes how long a call of a book took.
+func (m *Metrics) noteCall(name string, took time.Duration) {
+	m.calls.WithLabelValues(name).Observe(took.Seconds())
+	m.mu.Lock()
+	defer m.mu.Unlock()
+	m.called[name] = true
 }
 
 // Registry has all metrics.

@@ -339,6 +339,29 @@ func same(t *testing.T, what string, told, listed map[string]bool) {
 	}
 }
 
+func TestABookThatIsRemovedIsToldNoMore(t *testing.T) {
+	all := recorded.Books{"rack": books(t)["rack"], "harm": books(t)["harm"]}
+	m, _ := metricsOf(all, "")
+	ask := func(method, path string, next http.Handler) string {
+		recorder := httptest.NewRecorder()
+		next.ServeHTTP(recorder, httptest.NewRequest(method, path, nil))
+		return recorder.Body.String()
+	}
+	for name := range all {
+		ask("POST", "/books/"+name+"/call", m.Wrap(http.HandlerFunc(func(http.ResponseWriter, *http.Request) {})))
+	}
+	count := func() int {
+		return strings.Count(ask("GET", "/metrics", m.Handler()), "lrcmand_call_duration_seconds_count{")
+	}
+	if count() != 2 {
+		t.Error("two books that were called")
+	}
+	delete(all, "rack")
+	if text := ask("GET", "/metrics", m.Handler()); strings.Contains(text, `book="rack"`) || count() != 1 {
+		t.Errorf("%.300s", text)
+	}
+}
+
 func TestAnswersAreStillSentBitByBit(t *testing.T) {
 	m, _ := metricsOf(recorded.Books{}, "")
 	recorder := httptest.NewRecorder()

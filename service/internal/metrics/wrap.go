@@ -13,13 +13,14 @@ var routes = map[string]bool{"/": true, "/events": true, "/metrics": true, "/hea
 	"/books/{book}/image": true, "/books/{book}/call": true, "/books/{book}/peek": true, "/books/{book}/stripes/{stripe}": true,
 	"/books/{book}/show/status": true, "/books/{book}/show/stripes": true, "/books/{book}/show/nodes": true,
 	"/books/{book}/show/leases": true, "/books/{book}/show/work": true, "/books/{book}/may-stop": true,
-	"/books/{book}/may-lose": true, "/books/{book}/log": true, "/books/{book}/workers": true}
+	"/books/{book}/may-lose": true, "/books/{book}/log": true, "/books/{book}/workers": true,
+	"/leader/{id}": true}
 
 // routeOf is the route of a path, or "other", and the name of the book in it.
 func routeOf(path string) (route, book string) {
 	parts := strings.Split(path, "/")
 	switch {
-	case len(parts) == 3 && parts[1] == "members":
+	case len(parts) == 3 && (parts[1] == "members" || parts[1] == "leader"):
 		parts[2] = "{id}"
 	case len(parts) >= 3 && parts[1] == "books":
 		book, parts[2] = parts[2], "{book}"
@@ -87,7 +88,7 @@ func (m *Metrics) note(r *http.Request, status int, took time.Duration) {
 		return
 	}
 	m.duration.WithLabelValues(route).Observe(took.Seconds())
-	if route == "/books/{book}/call" && status == http.StatusOK { // (so the book exists)
-		m.calls.WithLabelValues(book).Observe(took.Seconds())
+	if route == "/books/{book}/call" && status == http.StatusOK { // (so the book exists, or did)
+		m.noteCall(book, took)
 	}
 }

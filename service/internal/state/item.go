@@ -17,8 +17,9 @@ const (
 	Call   Action = 1 // one command in a book
 	Create Action = 2 // a book over nodes, perhaps begun in an image
 	Reopen Action = 3 // a book goes on over other nodes
+	Remove Action = 4 // a book ends, with its keys and its log
 	// ChangeRules makes the group go to other rules. Programs of all rules take it.
-	ChangeRules Action = 4
+	ChangeRules Action = 5
 )
 
 // An Item is one request that changes books. The log carries items.
@@ -29,7 +30,7 @@ type Item struct {
 	Worker  string // of a call: "" or the name of the worker who asks
 	Session uint8
 	Command book.Command
-	At      *Place // of a call: nil, or where the book has to stand
+	At      *Place // where the book has to stand; of a call it may be nil
 	Nodes   []byte // of Create and Reopen
 	Image   []byte // of Create: nil, or the image to begin in
 	Rules   uint32 // of ChangeRules
@@ -56,11 +57,17 @@ func Encode(items []*Item) []byte {
 			b = appendBytes(b, item.Image)
 		case Reopen:
 			b = appendBytes(b, item.Nodes)
+		case Remove:
+			b = appendPlace(b, *item.At)
 		case ChangeRules:
 			b = binary.AppendUvarint(b, uint64(item.Rules))
 		}
 	}
 	return b
+}
+
+func appendPlace(b []byte, at Place) []byte {
+	return binary.AppendUvarint(binary.AppendUvarint(b, at.Made), at.Opens)
 }
 
 func appendBytes(b, text []byte) []byte {
@@ -82,7 +89,7 @@ func appendAsked(b []byte, item *Item) []byte {
 	if item.At == nil {
 		return append(b, 0)
 	}
-	return binary.AppendUvarint(binary.AppendUvarint(append(b, 1), item.At.Made), item.At.Opens)
+	return appendPlace(append(b, 1), *item.At)
 }
 
 // fingerprint tells calls apart that come with one key.
@@ -153,6 +160,8 @@ func (r *reader) item() *Item {
 		item.Image = r.bytes()
 	case Reopen:
 		item.Nodes = r.bytes()
+	case Remove:
+		item.At = &Place{r.number(), r.number()}
 	case ChangeRules:
 		item.Rules = uint32(r.number())
 	default:

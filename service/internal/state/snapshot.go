@@ -4,6 +4,7 @@ import (
 	"bufio"
 	"crypto/sha256"
 	"encoding/binary"
+	"errors"
 	"fmt"
 	"hash/crc32"
 	"io"
@@ -32,12 +33,42 @@ func checksum(texts ...[]byte) []byte {
 // Freeze returns a function that writes the books of now, beside later calls. It holds up a book only while it takes the image
 // of that one. So an image may be newer than the index of its snapshot: it has an index of its own, and Apply passes over the
 // entries that it has.
+//
+// A book that is removed before its image is taken stands in the snapshot as one that is gone, with the index of that entry.
 func (s *State) Freeze() func(io.Writer) error {
-	names, change := s.Names(), s.Change()
-	return func(to io.Writer) error { return s.save(to, names, change) }
+	all, change := s.frozen(), s.Change()
+	return func(to io.Writer) error { return s.save(to, all, change) }
 }
 
-func (s *State) save(to io.Writer, names []string, change Change) error {
+// A frozen is a book as a snapshot is to have it: one that is there, or the entry that removed it.
+type frozen struct {
+	name  string
+	one   *one
+	ended uint64
+}
+
+// frozen are the books of now, by name.
+func (s *State) frozen() []frozen {
+	s.entry.Lock()
+	defer s.entry.Unlock()
+	s.mu.RLock()
+	defer s.mu.RUnlock()
+	var all []frozen
+	for name, o := range s.books {
+		all = append(all, frozen{name: name, one: o})
+	}
+	for name, ended := range s.ended {
+		if ended > s.index {
+			all = append(all, frozen{name: name, ended: ended})
+		}
+	}
+	sort.Slice(all, func(i, j int) bool { return all[i].name < all[j].name })
+	return all
+}
+
+var errReplaced = errors.New("a snapshot of the leader came meanwhile")
+
+func (s *State) save(to io.Writer, all []frozen, change Change) error {
 	s.write.Lock()
 	defer s.write.Unlock()
 	w := bufio.NewWriterSize(to, 1<<18)
@@ -45,16 +76,16 @@ func (s *State) save(to io.Writer, names []string, change Change) error {
 		return err
 	}
 	var head []byte
-	for _, number := range []uint64{uint64(change.Rules), uint64(change.Next), change.Asked, uint64(len(names))} {
+	for _, number := range []uint64{uint64(change.Rules), uint64(change.Next), change.Asked, uint64(len(all))} {
 		head = binary.AppendUvarint(head, number)
 	}
 	if err := writeRecord(w, head); err != nil {
 		return err
 	}
-	for _, name := range names {
-		record, err := s.record(name)
+	for _, it := range all {
+		record, err := s.record(it)
 		if err != nil {
-			return fmt.Errorf("book %s: %w", name, err)
+			return fmt.Errorf("book %s: %w", it.name, err)
 		}
 		if err := writeRecord(w, record); err != nil {
 			return err
@@ -96,17 +127,25 @@ func readRecord(r io.Reader) (*reader, error) {
 func damaged(why error) error { return fmt.Errorf("%w: %v", engine.ErrDamaged, why) }
 
 // record is a book as a snapshot has it. No entry is applied meanwhile.
-func (s *State) record(name string) ([]byte, error) {
+func (s *State) record(it frozen) ([]byte, error) {
 	s.entry.Lock()
 	defer s.entry.Unlock()
-	o := s.find(name)
+	o := it.one
+	if o == nil {
+		return recordOfEnded(it.name, it.ended), nil
+	}
 	o.mu.Lock()
 	defer o.mu.Unlock()
+	if o.ended > 0 {
+		return recordOfEnded(it.name, o.ended), nil
+	} else if o.book == nil {
+		return nil, errReplaced
+	}
 	image, err := o.book.Image()
 	if err != nil {
 		return nil, err
 	}
-	b := appendBytes(nil, []byte(name))
+	b := appendBytes(nil, []byte(it.name))
 	b = appendBytes(b, o.nodes)
 	b = appendBytes(b, o.origin)
 	b = binary.AppendUvarint(b, o.opens)
@@ -114,6 +153,14 @@ func (s *State) record(name string) ([]byte, error) {
 	b = appendBytes(b, image)
 	b = o.appendKeys(b)
 	return o.appendHolders(b), nil
+}
+
+// recordOfEnded is a book that was removed: it was begun over nodes 0 times, and has the index of the entry that removed it.
+func recordOfEnded(name string, ended uint64) []byte {
+	b := appendBytes(nil, []byte(name))
+	b = append(b, 0, 0, 0) // (no nodes, no origin, 0 times)
+	b = binary.AppendUvarint(b, ended)
+	return append(b, 0, 0, 0) // (no image, no keys, no holders)
 }
 
 func (o *one) appendKeys(b []byte) []byte {
@@ -160,9 +207,9 @@ func (o *one) appendHolders(b []byte) []byte {
 func (s *State) Restore(from io.Reader) error {
 	s.write.Lock()
 	defer s.write.Unlock()
-	books, group, err := s.readBooks(bufio.NewReaderSize(from, 1<<18))
+	read, err := s.readBooks(bufio.NewReaderSize(from, 1<<18))
 	if err != nil {
-		for _, o := range books {
+		for _, o := range read.books {
 			o.book.Close()
 		}
 		return err
@@ -170,49 +217,65 @@ func (s *State) Restore(from io.Reader) error {
 	s.entry.Lock()
 	s.mu.Lock()
 	old := s.books
-	s.books, s.group = books, group
+	s.books, s.ended, s.group = read.books, read.ended, read.group
 	s.mu.Unlock()
 	s.entry.Unlock()
 	for _, o := range old { // a look may still be under way in one of them
 		o.mu.Lock()
-		o.book.Close()
-		o.book = nil
-		close(o.grown)
+		o.close()
 		o.mu.Unlock()
 	}
 	return nil
 }
 
-func (s *State) readBooks(r io.Reader) (books map[string]*one, of group, err error) {
+// A content is what a snapshot has.
+type content struct {
+	books map[string]*one
+	ended map[string]uint64
+	group group
+}
+
+func (s *State) readBooks(r io.Reader) (content, error) {
+	read := content{books: map[string]*one{}, ended: map[string]uint64{}}
 	mark := make([]byte, len(magic))
 	if _, err := io.ReadFull(r, mark); err != nil {
-		return nil, of, damaged(err)
+		return read, damaged(err)
 	}
 	if string(mark) != magic {
-		return nil, of, damaged(fmt.Errorf("it begins with %q and not with %q", mark, magic))
+		return read, damaged(fmt.Errorf("it begins with %q and not with %q", mark, magic))
 	}
 	head, err := readRecord(r)
 	if err != nil {
-		return nil, of, err
+		return read, err
 	}
-	of.rules, of.next, of.asked = uint32(head.number()), uint32(head.number()), head.number()
-	count := head.number()
-	if err := of.begins(s.ours); err != nil {
-		return nil, of, err
+	read.group = group{uint32(head.number()), uint32(head.number()), head.number()}
+	if err := read.group.begins(s.ours); err != nil {
+		return read, err
 	}
-	books = map[string]*one{}
-	for ; count > 0; count-- {
-		record, err := readRecord(r)
-		if err != nil {
-			return books, of, err
+	for count := head.number(); count > 0; count-- {
+		if err := read.next(r); err != nil {
+			return read, err
 		}
-		name, o, err := record.book()
-		if err != nil {
-			return books, of, err
-		}
-		books[name] = o
 	}
-	return books, of, nil
+	return read, nil
+}
+
+// next reads the record of a book.
+func (c *content) next(r io.Reader) error {
+	record, err := readRecord(r)
+	if err != nil {
+		return err
+	}
+	name, o, err := record.book()
+	if err != nil {
+		return err
+	}
+	if o.ended > 0 {
+		c.ended[name] = o.ended
+	} else {
+		c.books[name] = o
+	}
+	return nil
 }
 
 func (r *reader) book() (string, *one, error) {
@@ -226,6 +289,10 @@ func (r *reader) book() (string, *one, error) {
 	r.holders(o)
 	if r.isBad || len(r.rest) > 0 {
 		return "", nil, damaged(errDamaged)
+	}
+	if o.opens == 0 {
+		o.ended = o.index
+		return name, o, nil
 	}
 	var err error
 	o.nodes = clone(o.nodes) // (not with the image and the keys behind it)

@@ -70,12 +70,13 @@ type holding struct {
 // one is a book and what stands beside it. Its lock orders calls and looks.
 type one struct {
 	mu      sync.Mutex
-	book    *book.Book // nil once a restore has put another in its place
+	book    *book.Book // nil once it is removed, or a restore has put another in its place
 	nodes   []byte
 	origin  []byte // the nodes and the image that it was made with, as a checksum
 	opens   uint64
 	index   uint64 // of the last entry of the log that named it
 	from    uint64 // of the image that it began in: the entries up to here are in it
+	ended   uint64 // the entry that removed it; 0: none did
 	keys    map[string]kept
 	order   []string     // the keys, the oldest first
 	tail    []book.Entry // the last entries before those that the book has
@@ -86,8 +87,10 @@ type one struct {
 // A State is the books of one member.
 type State struct {
 	entry sync.Mutex   // held while an entry is applied: no image is taken in the middle of one
+	index uint64       // of the last entry that was applied
 	mu    sync.RWMutex // of the map and the rules; each book has a lock of its own
 	books map[string]*one
+	ended map[string]uint64 // books of a snapshot that was written after they were removed: the entries that removed them
 	group group
 	ours  uint32     // the rules of this library
 	write sync.Mutex // held while a snapshot is written, and by a restore
@@ -109,6 +112,7 @@ func (s *State) Apply(index uint64, payload []byte) (interface{}, error) {
 func (s *State) answers(index uint64, payload []byte) ([]Answer, error) {
 	s.entry.Lock()
 	defer s.entry.Unlock()
+	s.index = index
 	rules, items, err := decode(payload)
 	if err != nil {
 		return nil, fmt.Errorf("entry %d of the log can't be applied: %w", index, err)
@@ -155,6 +159,9 @@ func (s *State) find(name string) *one {
 }
 
 func (s *State) apply(index uint64, item *Item) (Answer, error) {
+	if index <= s.ended[item.Book] {
+		return Answer{}, nil // the snapshot is from after the book was removed. Nobody waits for this
+	}
 	o := s.find(item.Book)
 	if item.Action == Create {
 		return s.create(index, o, item)
@@ -167,11 +174,45 @@ func (s *State) apply(index uint64, item *Item) (Answer, error) {
 	if index <= o.from {
 		return Answer{}, nil // the image has it, which is newer than the index of its snapshot. Nobody waits for this
 	}
-	o.index = index
-	if item.Action == Reopen {
+	switch item.Action {
+	case Remove:
+		return s.remove(index, o, item)
+	case Reopen:
+		o.index = index
 		return o.reopen(item)
 	}
+	o.index = index
 	return o.answer(item)
+}
+
+// remove ends a book if it stands where the caller saw it. Whoever looks at it or waits for its entries hears that it is gone.
+func (s *State) remove(index uint64, o *one, item *Item) (Answer, error) {
+	if answer := o.moved(item); answer.Refusal != 0 {
+		return answer, nil
+	}
+	answer := Answer{Made: o.book.Made(), Opens: o.opens}
+	s.mu.Lock()
+	delete(s.books, item.Book)
+	s.mu.Unlock()
+	o.ended = index
+	o.close()
+	return answer, nil
+}
+
+// close frees a book that nobody finds any more. Its lock is held.
+func (o *one) close() {
+	o.book.Close()
+	o.book = nil
+	close(o.grown)
+}
+
+// moved is a refusal if a book does not stand where the caller saw it.
+func (o *one) moved(item *Item) Answer {
+	stand := Place{o.book.Made(), o.opens}
+	if item.At == nil || *item.At == stand {
+		return Answer{}
+	}
+	return refuse(Moved, fmt.Sprintf("the book stands at %d, opened %d times", stand.Made, stand.Opens))
 }
 
 // open makes a book of texts. A text that is refused is so on all members; an error is anything else.
@@ -278,9 +319,8 @@ func (o *one) keep(key string, answer kept) {
 }
 
 func (o *one) call(item *Item) (Answer, error) {
-	stand := Place{o.book.Made(), o.opens}
-	if item.At != nil && *item.At != stand {
-		return refuse(Moved, fmt.Sprintf("the book stands at %d, opened %d times", stand.Made, stand.Opens)), nil
+	if answer := o.moved(item); answer.Refusal != 0 {
+		return answer, nil
 	}
 	if lease, holder, isOther := o.ofAnother(item); isOther {
 		return Answer{Opens: o.opens, Reply: book.OfNotHolder(lease.Holder), Holder: holder}, nil
@@ -469,7 +509,7 @@ func (s *State) Look(name string, look func(*View) error) error {
 		if err, isDone := o.look(look); isDone {
 			return err
 		}
-		// (a restore has put another in its place meanwhile)
+		// (it was removed, or a restore has put another in its place meanwhile)
 	}
 }
 

@@ -439,6 +439,7 @@ func TestAnEntryThatIsDamagedIsRefused(t *testing.T) {
 
 func TestItemsAreReadAsTheyWereWritten(t *testing.T) {
 	items := []*Item{
+		{Action: Remove, Book: "p0", At: &Place{1 << 60, 3}},
 		{Action: Call, Book: "p0", Key: "k", Worker: "w", Session: 8, Command: call(t, "done 4095 15 4294967295").Command, At: &Place{1 << 60, 3}},
 		{Action: Call, Book: "p0", Session: 1, Command: call(t, "upgrade 255").Command},
 		{Action: Call, Book: "p0", Session: 1, Command: call(t, "join 65535").Command},
@@ -502,6 +503,90 @@ func TestEntriesThatASnapshotHasAreNotMadeTwice(t *testing.T) {
 	if len(q.s.Names()) != 6 {
 		t.Error(q.s.Names())
 	}
+}
+
+func TestABookIsRemoved(t *testing.T) {
+	p := newPlayer(t)
+	p.keyed("k", "tick")
+	p.as("w1", "next")
+	var grown <-chan struct{}
+	view(t, p, func(v *View) { grown = v.Grown() })
+	remove := func(made, opens uint64) Answer {
+		return p.item(&Item{Action: Remove, Book: "p0", At: &Place{made, opens}})
+	}
+	p.refused(remove(1, 1), Moved, "the book stands at 2, opened 1 times")
+	p.refused(remove(2, 2), Moved, "the book stands at 2, opened 1 times")
+	if answer := remove(2, 1); answer.Refusal != 0 || answer.Made != 2 || answer.Opens != 1 {
+		t.Errorf("%+v", answer)
+	}
+	<-grown // whoever waits for an entry hears of it
+	if err := p.s.Look("p0", func(*View) error { return nil }); err != ErrNoBook || len(p.s.Names()) != 0 {
+		t.Errorf("%v, %v", err, p.s.Names())
+	}
+	p.refused(remove(2, 1), NoBook, "there is no book p0")
+	p.refused(p.call("tick"), NoBook, "there is no book p0")
+	if names := p.restored(p.snapshot()).s.Names(); len(names) != 0 {
+		t.Errorf("after a restart: %v", names)
+	}
+	p.item(&Item{Action: Create, Book: "p0", Nodes: nodesOf(30, 2)}) // (other nodes)
+	p.expect(p.keyed("k", "tick"), 1, "ticked 1 0")                  // (the key is forgotten)
+}
+
+// A book is removed while a snapshot is written, before its image is taken. A member that begins in that snapshot has to pass
+// over what was done to the book meanwhile, and to apply what came later.
+func TestASnapshotKnowsWhatWasRemovedMeanwhile(t *testing.T) {
+	at := func(book string, made uint64) *Item { return &Item{Action: Remove, Book: book, At: &Place{made, 1}} }
+	again, tick := &Item{Action: Create, Book: "p0", Nodes: twenty}, call(t, "tick")
+	for name, it := range map[string]struct {
+		before, after []*Item // while the snapshot is written: before and after its images are taken
+		made          map[string]uint64
+	}{
+		"removed":                  {[]*Item{tick, again, tick, at("p0", 3)}, nil, map[string]uint64{"p1": 0}},
+		"removed later":            {[]*Item{tick}, []*Item{tick, at("p0", 3)}, map[string]uint64{"p1": 0}},
+		"removed and made":         {[]*Item{at("p0", 1), again, tick}, []*Item{tick}, map[string]uint64{"p0": 2, "p1": 0}},
+		"removed, made, removed":   {[]*Item{at("p0", 1), again, at("p0", 0)}, nil, map[string]uint64{"p1": 0}},
+		"removed, then made later": {[]*Item{tick, at("p0", 2)}, []*Item{again}, map[string]uint64{"p0": 0, "p1": 0}},
+		"others":                   {[]*Item{at("p1", 0)}, []*Item{tick}, map[string]uint64{"p0": 2}},
+	} {
+		p := newPlayer(t)
+		p.item(&Item{Action: Create, Book: "p1", Nodes: twenty})
+		p.call("tick")
+		write, begun := p.s.Freeze(), p.index
+		for _, item := range it.before {
+			p.item(item)
+		}
+		var text bytes.Buffer
+		if err := write(&text); err != nil {
+			t.Fatal(err)
+		}
+		for _, item := range it.after {
+			p.item(item)
+		}
+		q := p.restored(text.Bytes())
+		q.index = begun
+		for i, item := range append(append([]*Item(nil), it.before...), it.after...) {
+			if i == 1 { // a snapshot in the middle of this has to know as much
+				q = q.restored(q.snapshot())
+			}
+			q.item(item)
+		}
+		for who, player := range map[string]*player{"the one that went on": p, "the one that began in the snapshot": q} {
+			if made := player.made(); !reflect.DeepEqual(made, it.made) {
+				t.Errorf("%s: %s has %v, and not %v", name, who, made, it.made)
+			}
+		}
+	}
+}
+
+// made are the numbers of entries of all books.
+func (p *player) made() map[string]uint64 {
+	made := map[string]uint64{}
+	for _, name := range p.s.Names() {
+		if err := p.s.Look(name, func(v *View) error { made[name] = v.Stand.Made; return nil }); err != nil {
+			p.t.Error(err)
+		}
+	}
+	return made
 }
 
 func TestADamagedSnapshotIsRefused(t *testing.T) {

@@ -236,6 +236,31 @@ func TestAReportIsKeptWhileNothingChanges(t *testing.T) {
 	}
 }
 
+func TestABookThatIsRemovedIsForgotten(t *testing.T) {
+	b := load(t, "rack")
+	all := recorded.Books{"rack": b}
+	w := newClock().watch(all)
+	b.Show(90)
+	w.Step()
+	b.Show(91)
+	w.Step()
+	if counts := w.Counts("rack"); len(counts.Commands) != 1 || len(w.Last("rack")) == 0 {
+		t.Errorf("of one entry: %+v", counts)
+	}
+	delete(all, "rack")
+	w.Step()
+	all["rack"] = load(t, "rack")
+	all["rack"].Show(3)
+	w.Step()
+	sum := uint64(0)
+	for _, count := range w.Counts("rack").Commands {
+		sum += count
+	}
+	if last := w.Last("rack"); sum != 3 || len(last) != 3 || last[0].N != 1 {
+		t.Errorf("a book of the same name: %d entries, the last %+v", sum, last)
+	}
+}
+
 func TestABookThatIsNotThere(t *testing.T) {
 	if _, err := newClock().watch(recorded.Books{}).Report("p9"); err == nil {
 		t.Error("a report of no book")

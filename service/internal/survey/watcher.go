@@ -108,7 +108,9 @@ func (w *Watcher) Watch(ctx context.Context) {
 func (w *Watcher) Step() {
 	w.step.Lock()
 	defer w.step.Unlock()
-	for _, name := range w.books.Names() {
+	names := w.books.Names()
+	w.keepOnly(names)
+	for _, name := range names {
 		t := w.track(name)
 		for hasMore := true; hasMore; {
 			err := w.books.Look(name, func(v View) error {
@@ -122,6 +124,19 @@ func (w *Watcher) Step() {
 		}
 	}
 	w.isOld = true
+}
+
+// keepOnly forgets the books that were removed: one that is made again under the name of another begins anew.
+func (w *Watcher) keepOnly(names []string) {
+	w.mu.Lock()
+	defer w.mu.Unlock()
+	kept := map[string]*track{}
+	for _, name := range names {
+		if t := w.of[name]; t != nil {
+			kept[name] = t
+		}
+	}
+	w.of = kept
 }
 
 // track is what is kept of a book, which begins now if nothing is.

@@ -273,6 +273,37 @@ func (n *Node) Remove(ctx context.Context, id uint64) error {
 	return n.reconfigure(ctx, raftpb.ConfChange{Type: raftpb.ConfChangeRemoveNode, NodeID: id})
 }
 
+// Lead makes a member the leader. A leader gives an attempt up after one election timeout, so it is asked again.
+func (n *Node) Lead(ctx context.Context, id uint64) error {
+	check := time.NewTicker(leadTime)
+	defer check.Stop()
+	for asked := (time.Time{}); ; {
+		n.mu.Lock()
+		_, isThere := n.members[id]
+		n.mu.Unlock()
+		leader := atomic.LoadUint64(&n.lead)
+		if !isThere {
+			return engine.Refused(fmt.Sprintf("there is no member %d", id))
+		} else if leader == id {
+			return nil
+		}
+		if leader != raft.None && time.Since(asked) > 2*n.cfg.Election {
+			asked = time.Now()
+			n.raft.TransferLeadership(ctx, leader, id)
+		}
+		select {
+		case <-check.C:
+		case <-ctx.Done():
+			return engine.ErrNotMoved
+		case <-n.done:
+			return engine.ErrEnded
+		}
+	}
+}
+
+// leadTime is the time between two looks at who leads.
+const leadTime = 10 * time.Millisecond
+
 // announce tells the group where this member is, if it was started at other addresses than the group knows.
 func (n *Node) announce() {
 	text, _ := json.Marshal(n.cfg.Self) // (numbers and texts alone: never an error)

@@ -772,6 +772,37 @@ func TestMembersShowEachOtherCertificates(t *testing.T) {
 	}
 }
 
+func TestALeaderIsMovedByRequest(t *testing.T) {
+	t.Parallel()
+	g := groupOf(t, 3)
+	propose(t, g.nodes[1], "entry 1")
+	for i := 0; i < 4; i++ {
+		from := g.leader()
+		to := g.other(from)
+		asked := g.nodes[uint64(i%3+1)] // any member may be asked
+		ctx, cancel := context.WithTimeout(context.Background(), 20*time.Second)
+		if err := asked.Lead(ctx, to); err != nil || asked.Status().Leader != to {
+			t.Errorf("from %d to %d: %v, and %d leads", from, to, err, asked.Status().Leader)
+		}
+		cancel()
+		propose(t, g.nodes[from], fmt.Sprintf("entry %d", i+2))
+	}
+	g.alike(texts(1, 5))
+	ctx, cancel := context.WithTimeout(context.Background(), 700*time.Millisecond)
+	defer cancel()
+	var refused engine.Refused
+	if err := g.nodes[1].Lead(ctx, 9); !errors.As(err, &refused) {
+		t.Errorf("to nobody: %v", err)
+	}
+	away := g.other(g.leader())
+	g.nodes[away].Close()
+	delete(g.nodes, away)
+	if err := g.nodes[g.leader()].Lead(ctx, away); err != engine.ErrNotMoved {
+		t.Errorf("to one that is away: %v", err)
+	}
+	propose(t, g.nodes[g.leader()], "entry 6") // the group goes on
+}
+
 // entries are those of the given indexes.
 func entries(indexes ...uint64) (all []raftpb.Entry) {
 	for _, index := range indexes {
