@@ -27,6 +27,8 @@ type Member struct {
 	ID     uint64 `json:"id"`
 	Peer   string `json:"peer"`   // HOST:PORT for the other members
 	Client string `json:"client"` // HOST:PORT for clients
+	// It keeps the log and answers as the others, and neither votes nor leads.
+	Learner bool `json:"learner,omitempty"`
 }
 
 // A Status is how one member sees the group.
@@ -72,7 +74,8 @@ type Engine interface {
 	Barrier(ctx context.Context) error
 	// Status is how this member sees the group now.
 	Status() Status
-	// Add adds a member, and Remove removes one. The error is a Refused if the change is not lawful.
+	// Add adds a member, and Remove removes one. To add one that only learns, as one that does not, makes it vote. The error is
+	// a Refused if the change is not lawful.
 	Add(ctx context.Context, member Member) error
 	Remove(ctx context.Context, id uint64) error
 	// Lead makes a member the leader, and returns once it is, as far as this one knows. It may take long if that member is

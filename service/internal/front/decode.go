@@ -215,8 +215,9 @@ func placeOf(text []byte) (*state.Place, error) {
 
 // A memberBody is the body that adds a member.
 type memberBody struct {
-	Peer   string `json:"peer"`
-	Client string `json:"client"`
+	Peer    string `json:"peer"`
+	Client  string `json:"client"`
+	Learner bool   `json:"learner"`
 }
 
 func memberOf(text []byte, id uint64) (engine.Member, error) {
@@ -229,7 +230,7 @@ func memberOf(text []byte, id uint64) (engine.Member, error) {
 			return engine.Member{}, bad("the field %q %v", field, err)
 		}
 	}
-	return engine.Member{ID: id, Peer: body.Peer, Client: body.Client}, nil
+	return engine.Member{ID: id, Peer: body.Peer, Client: body.Client, Learner: body.Learner}, nil
 }
 
 // isJSON tells what kind of body a request has; an error if it has none that is taken.

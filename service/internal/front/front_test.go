@@ -282,6 +282,7 @@ func TestBadRequestsAreRefusedByName(t *testing.T) {
 		{"PUT", "/members/2", `{"peer":"h","client":"h:2"}`, 400, `the field "peer" has to be HOST:PORT`},
 		{"PUT", "/members/2", `{"peer":"h:1","client":"h:0"}`, 400, `the field "client" has no port`},
 		{"PUT", "/members/2", `{"peer":"h:1","client":"h:2","id":2}`, 400, `there is no field "id"`},
+		{"PUT", "/members/2", `{"peer":"h:1","client":"h:2","learner":1}`, 400, `the field "learner" has to be a bool and not a number`},
 		{"PUT", "/members/9", `{"peer":"h:1","client":"h:2"}`, 409, "there is a member 9 already"},
 		{"DELETE", "/members/2", "", 504, "nobody knows"},
 		{"POST", "/snapshot", "", 503, "a snapshot is being written"},
@@ -672,6 +673,9 @@ func TestVersionAndMembers(t *testing.T) {
 	s.expect("GET", "/members", "", 200, `{"members":[{"id":1,"peer":"h:1","client":"h:2","leader":true}]}`)
 	s.expect("PUT", "/members/2", `{"peer":"i:1","client":"i:2"}`, 200,
 		`{"members":[{"id":1,"peer":"h:1","client":"h:2","leader":true},{"id":2,"peer":"i:1","client":"i:2","leader":false}]}`)
+	s.expect("PUT", "/members/3", `{"peer":"j:1","client":"j:2","learner":true}`, 200,
+		`{"members":[{"id":1,"peer":"h:1","client":"h:2","leader":true},{"id":2,"peer":"i:1","client":"i:2","leader":false},`+
+			`{"id":3,"peer":"j:1","client":"j:2","learner":true,"leader":false}]}`)
 	_, text := s.ask("GET", "/version", "")
 	if !strings.HasPrefix(text, fmt.Sprintf(`{"service":1,"form":1,"interface":%d,"rules":%d,"go":"go1`, book.Interface(), book.Rules())) {
 		t.Error(text)

@@ -120,30 +120,46 @@ func (n *Node) head() head {
 func (n *Node) judge(change *raftpb.ConfChange, member engine.Member) string {
 	n.mu.Lock()
 	defer n.mu.Unlock()
-	_, isThere := n.members[change.NodeID]
+	known, isThere := n.members[change.NodeID]
+	isAdded := change.Type == raftpb.ConfChangeAddNode || change.Type == raftpb.ConfChangeAddLearnerNode
+	isPromoted := isThere && change.Type == raftpb.ConfChangeAddNode && known.Learner
 	switch {
-	case change.Type == raftpb.ConfChangeAddNode && n.removed[change.NodeID]:
+	case isAdded && n.removed[change.NodeID]:
 		return fmt.Sprintf("the number %d was removed, and is not used again", change.NodeID)
-	case change.Type == raftpb.ConfChangeAddNode && isThere:
+	case isAdded && isThere && !isPromoted:
 		return fmt.Sprintf("there is a member %d already", change.NodeID)
-	case change.Type == raftpb.ConfChangeAddNode && len(n.members) > 0 && n.lacksAddress(member):
+	case isAdded && len(n.members) > 0 && n.lacksAddress(member):
 		return "a member has no address for the others: start it with --peer"
-	case change.Type != raftpb.ConfChangeAddNode && !isThere:
+	case !isAdded && !isThere:
 		return fmt.Sprintf("there is no member %d", change.NodeID)
-	case change.Type == raftpb.ConfChangeRemoveNode && len(n.members) == 1:
-		return fmt.Sprintf("%d is the only member", change.NodeID)
+	case change.Type == raftpb.ConfChangeRemoveNode && !known.Learner && n.voters() == 1:
+		return fmt.Sprintf("%d is the only member that votes", change.NodeID)
 	case change.Type == raftpb.ConfChangeUpdateNode && len(n.members) > 1 && member.Peer == "":
 		return "it has no address for the others"
 	case change.Type != raftpb.ConfChangeRemoveNode && member.Peer != "" && !n.isAddress(member):
 		return fmt.Sprintf("this is no address: %q", member.Peer) // (all members would end by it)
 	}
-	if change.Type == raftpb.ConfChangeRemoveNode {
+	switch change.Type {
+	case raftpb.ConfChangeRemoveNode:
 		delete(n.members, change.NodeID)
 		n.removed[change.NodeID] = true
-	} else {
+	case raftpb.ConfChangeUpdateNode:
+		member.Learner = known.Learner
+		n.members[change.NodeID] = member
+	default:
 		n.members[change.NodeID] = member
 	}
 	return ""
+}
+
+// voters is the number of members that do not only learn.
+func (n *Node) voters() (count int) {
+	for _, member := range n.members {
+		if !member.Learner {
+			count++
+		}
+	}
+	return count
 }
 
 func (n *Node) isAddress(member engine.Member) bool {
@@ -205,7 +221,9 @@ func (n *Node) tellChanges() {
 func (n *Node) connect(kind raftpb.ConfChangeType, id uint64, member engine.Member) {
 	switch {
 	case id == n.cfg.Self.ID:
-	case kind == raftpb.ConfChangeAddNode:
+	case kind == raftpb.ConfChangeAddNode && n.peers.Get(types.ID(id)) != nil: // (it learned before)
+		n.peers.UpdatePeer(types.ID(id), []string{n.url(member)})
+	case kind == raftpb.ConfChangeAddNode, kind == raftpb.ConfChangeAddLearnerNode:
 		n.addPeer(member)
 	case kind == raftpb.ConfChangeUpdateNode && n.peers.Get(types.ID(id)) != nil:
 		n.peers.UpdatePeer(types.ID(id), []string{n.url(member)})
@@ -231,41 +249,39 @@ func (n *Node) disconnect(id uint64) {
 	}
 }
 
-// reconfigure proposes a change of members, and proposes it again while nobody hears of it: raft makes an empty entry of a
-// change that comes before the last one is over on the leader, without a word. All of these have one number. So whoever
-// waits hears of the first that is applied, and nobody of the others, which change nothing then.
+// reconfigure proposes a change of members until it is told. Where the leader has not applied the one before yet, it makes an
+// empty entry of it, without a word. A change that comes a second time is not lawful any more, so nothing is made twice.
 func (n *Node) reconfigure(ctx context.Context, change raftpb.ConfChange) error {
 	id, told := n.wait()
 	change.ID = id
-	again := time.NewTicker(n.cfg.Election)
-	defer again.Stop()
-	for isProposed := false; ; {
-		err := n.raft.ProposeConfChange(ctx, change)
-		if err != nil && !isProposed {
-			n.forgetWaiting(id)
+	defer n.forgetWaiting(id)
+	for isFirst := true; ; isFirst = false {
+		if err := n.raft.ProposeConfChange(ctx, change); err != nil && isFirst {
 			return engine.ErrNoLeader
 		}
-		isProposed = true
 		select {
 		case outcome := <-told:
 			return outcome.err
-		case <-again.C:
-			continue
+		case <-time.After(n.cfg.Election):
 		case <-ctx.Done():
+			return engine.ErrUnknown
 		case <-n.done:
+			return engine.ErrUnknown
 		}
-		n.forgetWaiting(id)
-		return engine.ErrUnknown
 	}
 }
 
-// Add adds a member.
+// Add adds a member, or makes one vote that only learned.
 func (n *Node) Add(ctx context.Context, member engine.Member) error {
 	text, err := json.Marshal(member)
 	if err != nil {
 		return err
 	}
-	return n.reconfigure(ctx, raftpb.ConfChange{Type: raftpb.ConfChangeAddNode, NodeID: member.ID, Context: text})
+	kind := raftpb.ConfChangeAddNode
+	if member.Learner {
+		kind = raftpb.ConfChangeAddLearnerNode
+	}
+	return n.reconfigure(ctx, raftpb.ConfChange{Type: kind, NodeID: member.ID, Context: text})
 }
 
 // Remove removes a member.
@@ -279,11 +295,13 @@ func (n *Node) Lead(ctx context.Context, id uint64) error {
 	defer check.Stop()
 	for asked := (time.Time{}); ; {
 		n.mu.Lock()
-		_, isThere := n.members[id]
+		member, isThere := n.members[id]
 		n.mu.Unlock()
 		leader := atomic.LoadUint64(&n.lead)
 		if !isThere {
 			return engine.Refused(fmt.Sprintf("there is no member %d", id))
+		} else if member.Learner {
+			return engine.Refused(fmt.Sprintf("member %d only learns", id))
 		} else if leader == id {
 			return nil
 		}
@@ -320,6 +338,7 @@ func (n *Node) announce() {
 		if !isMember || atomic.LoadUint64(&n.lead) == raft.None {
 			continue
 		}
+		known.Learner = n.cfg.Self.Learner // (the addresses alone are this member's to tell)
 		if known == n.cfg.Self {
 			return
 		}

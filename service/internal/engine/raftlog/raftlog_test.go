@@ -780,7 +780,7 @@ func TestALeaderIsMovedByRequest(t *testing.T) {
 		from := g.leader()
 		to := g.other(from)
 		asked := g.nodes[uint64(i%3+1)] // any member may be asked
-		ctx, cancel := context.WithTimeout(context.Background(), 20*time.Second)
+		ctx, cancel := context.WithTimeout(context.Background(), long)
 		if err := asked.Lead(ctx, to); err != nil || asked.Status().Leader != to {
 			t.Errorf("from %d to %d: %v, and %d leads", from, to, err, asked.Status().Leader)
 		}
@@ -801,6 +801,68 @@ func TestALeaderIsMovedByRequest(t *testing.T) {
 		t.Errorf("to one that is away: %v", err)
 	}
 	propose(t, g.nodes[g.leader()], "entry 6") // the group goes on
+}
+
+func TestALearnerKeepsTheLogAndDoesNotVote(t *testing.T) {
+	t.Parallel()
+	g := groupOf(t, 2)
+	proposeAll(t, g.nodes[1], texts(1, 3))
+	member := engine.Member{ID: 3, Peer: testports.Free(t), Client: "127.0.0.1:1", Learner: true}
+	g.must(member)
+	g.members = append(g.members, member)
+	joins := member
+	joins.Learner = false // (it is not told on its command line)
+	cfg, _ := configOf(t, t.TempDir(), joins)
+	cfg.Members = nil
+	g.configs[3] = cfg
+	g.start(3)
+	g.alike(texts(1, 3))
+	propose(t, g.nodes[3], "entry 4") // it passes calls on
+	time.Sleep(2 * cfg.Election)      // (it tells its address now, and stays a learner)
+	expectLearner(t, g, true)
+	refused(t, g, func(ctx context.Context, n *Node) error { return n.Lead(ctx, 3) }, "member 3 only learns")
+	refused(t, g, func(ctx context.Context, n *Node) error { return n.Add(ctx, member) }, "there is a member 3 already")
+
+	g.nodes[2].Close() // one of two that vote: the learner is no majority with the other
+	delete(g.nodes, 2)
+	ctx, cancel := context.WithTimeout(context.Background(), 3*cfg.Election)
+	defer cancel()
+	if told, err := g.nodes[1].Propose(ctx, []byte("nobody counts this")); err == nil {
+		t.Errorf("told %v by one of two", told)
+	}
+	g.start(2)
+	eventually(t, "the group goes on", func() bool { return g.nodes[2].Status().Leader != 0 })
+
+	g.nodes[3].Close() // after a restart it still learns
+	g.start(3)
+	expectLearner(t, g, true)
+	g.must(joins)
+	expectLearner(t, g, false)
+	g.nodes[2].Close() // now it is a majority with the other
+	delete(g.nodes, 2)
+	propose(t, g.nodes[1], "entry 5")
+}
+
+// expectLearner waits until all members know member 3 as one that learns, or votes.
+func expectLearner(t *testing.T, g *group, is bool) {
+	t.Helper()
+	for id := range g.nodes {
+		eventually(t, fmt.Sprintf("member %d hears of it", id), func() bool {
+			members := g.nodes[id].Status().Members
+			return len(members) == 3 && members[2].Learner == is
+		})
+	}
+}
+
+// refused expects a change that is not lawful, by the words.
+func refused(t *testing.T, g *group, change func(context.Context, *Node) error, words string) {
+	t.Helper()
+	ctx, cancel := context.WithTimeout(context.Background(), long)
+	defer cancel()
+	var why engine.Refused
+	if err := change(ctx, g.nodes[1]); !errors.As(err, &why) || string(why) != words {
+		t.Errorf("%v, and not %q", err, words)
+	}
 }
 
 // entries are those of the given indexes.

@@ -209,7 +209,8 @@ func (n *Node) sendSnapshot(message raftpb.Message) {
 }
 
 func (n *Node) toSend(message raftpb.Message) (*os.File, int64, error) {
-	if !has(message.Snapshot.Metadata.ConfState.Voters, message.To) {
+	conf := &message.Snapshot.Metadata.ConfState
+	if !has(conf.Voters, message.To) && !has(conf.Learners, message.To) {
 		// Raft offers the last one, which is from before this member was added. The member would ignore it, for ever if the
 		// group needs it for a quorum. So make one of now: raft asks again after a failure.
 		n.trySnapshot()
