@@ -2,23 +2,8 @@
 import random
 import time
 
-from clients import Caller, Looker, Reader
 from cluster import Group
-from judge import image_of, judge
-
-BOOKS = ["p0", "p1", "p2"]
-
-
-class Run:
-    """What came of a run: the faults, and what happened in it."""
-
-    def __init__(self):
-        self.faults, self.acts, self.told, self.looks, self.again, self.longest, self.entries = [], {}, 0, 0, 0, 0.0, 0
-
-    def __str__(self):
-        acts = ", ".join(f"{count} {word}" for word, count in sorted(self.acts.items()))
-        asked = f"{self.told} told ({self.again} again), {self.looks} looks, {self.entries} entries"
-        return f"{asked}; {acts or 'quiet'}; longest silence {self.longest:.1f} s"
+from work import Run, Work, make_books
 
 
 class Chaos:
@@ -75,28 +60,14 @@ class Chaos:
             self.back(number)
 
 
-def make_books(group, topology):
-    group.leader()
-    for book in BOOKS:
-        for _ in range(100):
-            if group.asker.ask(group.members[1].client, "PUT", f"/books/{book}", topology)[0] == 200:
-                break
-            time.sleep(0.05)
-        else:
-            raise RuntimeError(f"the book {book} is not made")
-
-
 def chaos(program, folder, nodes, topology, seconds, seed, env=None, is_quiet=False, callers=8, lookers=2):
     """One run. With is_quiet nothing happens to the members."""
     run = Run()
     words = ["--election", "400ms", "--snapshot-every", "150", "--trailing", "20", "--tick", "0"]
     with Group(program, folder, 3, words, env) as group:
         make_books(group, topology)
-        calls = [Caller(group, number, BOOKS, 0.004) for number in range(1, callers + 1)]
-        looks = [Looker(group, number, BOOKS) for number in range(lookers)]
-        reads = [Reader(group, book) for book in BOOKS]
-        for client in [*calls, *looks, *reads]:
-            client.start()
+        work = Work(group, nodes, callers, lookers)
+        work.begin()
         acts, end = Chaos(group, seed), time.monotonic() + seconds
         while time.monotonic() < end:
             time.sleep(acts.random.uniform(0.1, 0.7))
@@ -108,50 +79,7 @@ def chaos(program, folder, nodes, topology, seconds, seed, env=None, is_quiet=Fa
         time.sleep(seconds if is_quiet else 0)
         acts.end()
         run.acts = acts.acts
-        finish(run, group, calls, looks, reads)
-        told, seen = [it for one in calls for it in one.told], [it for one in looks for it in one.looks]
-        logs = {one.book: one.entries for one in reads}
-        run.faults += judge(nodes, logs, told, seen)
-        run.faults += image_faults(group, nodes, logs)
+        work.end(run)
         run.faults += [f"member {number} was removed, and ended with {it.process.poll()}" for number, it in group.gone.items()
                        if it.process.poll() not in (3, None)]
-        run.told, run.looks, run.entries = len(told), len(seen), sum(map(len, logs.values()))
-        run.again = sum(one.again for one in calls)
-        times = sorted(it.told for it in told)
-        run.longest = max((b - a for a, b in zip(times, times[1:])), default=0.0)
     return run
-
-
-def finish(run, group, calls, looks, reads):
-    """Lets the clients end: those who ask are told, and those who read have all."""
-    for client in [*calls, *looks]:
-        client.is_over.set()
-    for client in [*calls, *looks]:
-        client.join(70)
-        if client.is_alive() or client.fault:
-            run.faults.append(f"{type(client).__name__}: {client.fault or 'it does not end'}")
-    leader = group.members[group.leader()]
-    for reader in reads:
-        status, told = group.asker.json(leader.client, "GET", f"/books/{reader.book}?now=1")
-        reader.until = told["n"] if status == 200 else 0
-    for reader in reads:
-        reader.join(20)
-        reader.is_over.set()
-        if not reader.is_done() or reader.fault:
-            read = f"{len(reader.entries)} of {reader.until}"
-            run.faults.append(f"the log of {reader.book} was read up to {read}: {reader.fault}")
-
-
-def image_faults(group, nodes, logs):
-    """All members have the image that the rules have after the log."""
-    for book, log in logs.items():
-        right = image_of(nodes, log).encode()
-        for member in group.members.values():
-            status, _, text = group.asker.ask(member.client, "GET", f"/books/{book}/image?now=1")
-            for _ in range(50):
-                if status == 200:
-                    break
-                time.sleep(0.1)
-                status, _, text = group.asker.ask(member.client, "GET", f"/books/{book}/image?now=1")
-            if text != right:
-                yield f"{book}: member {member.number} has another image, status {status}"

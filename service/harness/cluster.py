@@ -65,11 +65,13 @@ class Member:
     def __init__(self, group, number, words):
         self.group, self.number, self.words = group, number, words
         self.client, self.peer = free_port(), free_port()
+        self.front = self.client  # where clients ask
         self.folder = os.path.join(group.folder, f"member{number}")
+        self.log = f"{self.folder}.log"
         self.process, self.is_stopped, self.is_first = None, False, False
 
     def start(self, *more):
-        with open(f"{self.folder}.log", "ab") as said:
+        with open(self.log, "ab") as said:
             address = f"127.0.0.1:{self.client}"
             words = ["--data", self.folder, "--id", str(self.number), "--listen", address, *self.words, *more]
             env = {**os.environ, **self.group.env}
@@ -93,7 +95,7 @@ class Member:
         self.is_stopped = False
 
     def said(self):
-        with open(f"{self.folder}.log", encoding="utf-8", errors="replace") as file:
+        with open(self.log, encoding="utf-8", errors="replace") as file:
             return file.read()
 
 
@@ -128,7 +130,7 @@ class Group:
             member.start("--join", "--peer", f"127.0.0.1:{member.peer}")
 
     def ports(self):
-        return [member.client for member in list(self.members.values())]
+        return [member.front for member in list(self.members.values())]
 
     def status(self, member):
         return self.asker.json(member.client, "GET", "/status")[1]

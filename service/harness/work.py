@@ -1,0 +1,112 @@
+"""Books, clients that work on them over a group, and what their answers have to be."""
+import time
+
+from clients import Caller, Looker, Reader
+from judge import image_of, judge
+
+BOOKS = ["p0", "p1", "p2"]
+
+
+class Run:
+    """What came of a run: the faults, and what happened in it."""
+
+    def __init__(self):
+        self.faults, self.acts, self.told, self.looks, self.again, self.longest, self.entries = [], {}, 0, 0, 0, 0.0, 0
+
+    def count(self, word):
+        self.acts[word] = self.acts.get(word, 0) + 1
+
+    def __str__(self):
+        acts = ", ".join(f"{count} {word}" for word, count in sorted(self.acts.items()))
+        asked = f"{self.told} told ({self.again} again), {self.looks} looks, {self.entries} entries"
+        return f"{asked}; {acts or 'quiet'}; longest silence {self.longest:.1f} s"
+
+
+def make_books(group, topology):
+    group.leader()
+    for book in BOOKS:
+        for _ in range(100):
+            if group.asker.ask(group.members[1].client, "PUT", f"/books/{book}", topology)[0] == 200:
+                break
+            time.sleep(0.05)
+        else:
+            raise RuntimeError(f"the book {book} is not made")
+
+
+class Work:
+    """Callers, lookers and a reader of each book, from `begin` to `end`."""
+
+    def __init__(self, group, nodes, callers=8, lookers=2, pace=0.004):
+        self.group, self.nodes = group, nodes
+        self.calls = [Caller(group, number, BOOKS, pace) for number in range(1, callers + 1)]
+        self.looks = [Looker(group, number, BOOKS) for number in range(lookers)]
+        self.reads = [Reader(group, book) for book in BOOKS]
+        self.more = []  # what others were told, as the callers have it
+
+    def begin(self):
+        for client in [*self.calls, *self.looks, *self.reads]:
+            client.start()
+
+    def told(self):
+        return [*(it for one in self.calls for it in one.told), *self.more]
+
+    def faults_so_far(self):
+        return [f"{type(it).__name__}: {it.fault}" for it in [*self.calls, *self.looks, *self.reads] if it.fault]
+
+    def end(self, run):
+        """Lets the clients end, when all members are up, and judges."""
+        run.faults += finish(self.group, self.calls, self.looks, self.reads)
+        told, seen = self.told(), [it for one in self.looks for it in one.looks]
+        logs = {one.book: one.entries for one in self.reads}
+        run.faults += judge(self.nodes, logs, told, seen)
+        run.faults += image_faults(self.group, self.nodes, logs)
+        run.told, run.looks, run.entries = len(told), len(seen), sum(map(len, logs.values()))
+        run.again = sum(one.again for one in self.calls)
+        times = sorted(it.told for it in told)
+        run.longest = max((b - a for a, b in zip(times, times[1:])), default=0.0)
+
+
+def finish(group, calls, looks, reads):
+    """Lets the clients end: those who ask are told, and those who read have all. Returns what went wrong."""
+    faults = []
+    for client in [*calls, *looks]:
+        client.is_over.set()
+    for client in [*calls, *looks]:
+        client.join(70)
+        if client.is_alive() or client.fault:
+            faults.append(f"{type(client).__name__}: {client.fault or 'it does not end'}")
+    leader = group.members[group.leader()]
+    for reader in reads:
+        reader.until = entries_of(group, leader, reader.book)
+    for reader in reads:
+        reader.join(20)
+        reader.is_over.set()
+        if not reader.is_done() or reader.fault:
+            read = f"{len(reader.entries)} of {reader.until}"
+            faults.append(f"the log of {reader.book} was read up to {read}: {reader.fault}")
+    return faults
+
+
+def entries_of(group, member, book):
+    """The number of entries of a book as of now."""
+    for _ in range(50):
+        status, told = group.asker.json(member.client, "GET", f"/books/{book}?now=1")
+        if status == 200:
+            return told["n"]
+        time.sleep(0.1)
+    raise RuntimeError(f"member {member.number} does not tell the entries of {book}: status {status}")
+
+
+def image_faults(group, nodes, logs):
+    """All members have the image that the rules have after the log."""
+    for book, log in logs.items():
+        right = image_of(nodes, log).encode()
+        for member in group.members.values():
+            status, _, text = group.asker.ask(member.client, "GET", f"/books/{book}/image?now=1")
+            for _ in range(50):
+                if status == 200:
+                    break
+                time.sleep(0.1)
+                status, _, text = group.asker.ask(member.client, "GET", f"/books/{book}/image?now=1")
+            if text != right:
+                yield f"{book}: member {member.number} has another image, status {status}"
