@@ -21,12 +21,17 @@ class Client(threading.Thread):
     def __init__(self, group, seed):
         super().__init__(daemon=True)
         self.group, self.random, self.is_over, self.fault = group, random.Random(seed), threading.Event(), None
+        self.gives_up = False  # ends at once, and not only when it was told
 
     def run(self):
         try:
             self.work()
         except Exception as why:  # (the test reports it)
             self.fault = why
+
+    def give_up(self):
+        self.gives_up = True
+        self.is_over.set()
 
     def port(self):
         return self.random.choice(self.group.ports())
@@ -76,6 +81,8 @@ class Caller(Client):
                 raise RuntimeError(f"{command} in {book}: {told}")
             self.mine = self.port()
             time.sleep(0.01)
+            if self.gives_up:
+                return
             if time.monotonic() - begun > 60:
                 raise RuntimeError(f"{command} in {book} is not told in a minute")
         self.again += told.get("again", False)

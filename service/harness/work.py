@@ -53,6 +53,12 @@ class Work:
     def faults_so_far(self):
         return [f"{type(it).__name__}: {it.fault}" for it in [*self.calls, *self.looks, *self.reads] if it.fault]
 
+    def give_up(self, run):
+        """Ends without a judgement, after a fault."""
+        run.faults += self.faults_so_far()
+        for client in [*self.calls, *self.looks, *self.reads]:
+            client.give_up()
+
     def end(self, run):
         """Lets the clients end, when all members are up, and judges."""
         run.faults += finish(self.group, self.calls, self.looks, self.reads)
@@ -77,9 +83,12 @@ def finish(group, calls, looks, reads):
             faults.append(f"{type(client).__name__}: {client.fault or 'it does not end'}")
     leader = group.members[group.leader()]
     for reader in reads:
-        reader.until = entries_of(group, leader, reader.book)
+        status, reader.until = entries_of(group, leader, reader.book)
+        if status != 200:
+            faults.append(f"member {leader.number} does not tell the entries of {reader.book}: status {status}")
+    end = time.monotonic() + 20
     for reader in reads:
-        reader.join(20)
+        reader.join(max(end - time.monotonic(), 0.1))
         reader.is_over.set()
         if not reader.is_done() or reader.fault:
             read = f"{len(reader.entries)} of {reader.until}"
@@ -88,13 +97,13 @@ def finish(group, calls, looks, reads):
 
 
 def entries_of(group, member, book):
-    """The number of entries of a book as of now."""
+    """The number of entries of a book as of now, and the status of the answer."""
     for _ in range(50):
         status, told = group.asker.json(member.client, "GET", f"/books/{book}?now=1")
-        if status == 200:
-            return told["n"]
+        if status in (200, 404):
+            break
         time.sleep(0.1)
-    raise RuntimeError(f"member {member.number} does not tell the entries of {book}: status {status}")
+    return status, told.get("n", 0)
 
 
 def image_faults(group, nodes, logs):

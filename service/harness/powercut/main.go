@@ -41,7 +41,7 @@ func obey(disk *disk, lines *bufio.Scanner) {
 		var seed int64
 		if _, err := fmt.Sscanf(lines.Text(), "cut %d", &seed); err == nil {
 			did := disk.cut(seed)
-			fmt.Printf("pages kept %d torn %d lost %d names kept %d lost %d\n",
+			fmt.Printf("%d kept pages, %d torn pages, %d lost pages, %d kept names, %d lost names\n",
 				did.kept, did.torn, did.lost, did.namesKept, did.namesLost)
 		} else if lines.Text() == "on" {
 			disk.restore()

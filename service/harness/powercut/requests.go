@@ -2,6 +2,7 @@ package main
 
 import (
 	"syscall"
+	"time"
 
 	"github.com/hanwen/go-fuse/fuse"
 )
@@ -128,13 +129,18 @@ func (d *disk) Fallocate(_ <-chan struct{}, input *fuse.FallocateIn) fuse.Status
 	})
 }
 
+// A sync takes as long as on a disk: so that a cut often comes before it is over.
+const syncTime = 2 * time.Millisecond
+
 // Fsync makes the content of a file safe, and not its name.
 func (d *disk) Fsync(_ <-chan struct{}, input *fuse.FsyncIn) fuse.Status {
+	time.Sleep(syncTime)
 	return d.inFile(input.NodeId, func(file *file) { file.sync() })
 }
 
 // FsyncDir makes the names in a folder safe, and not what they name.
 func (d *disk) FsyncDir(_ <-chan struct{}, input *fuse.FsyncIn) fuse.Status {
+	time.Sleep(syncTime)
 	return d.inFolder(input.NodeId, func(folder *folder) syscall.Errno { folder.sync(); return 0 })
 }
 

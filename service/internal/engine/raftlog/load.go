@@ -74,8 +74,11 @@ func (n *Node) metadata() []byte {
 // openLog goes on with the folder's log, or makes one. It tells whether there was one with something in it.
 func (n *Node) openLog() (isOld bool, err error) {
 	if wal.Exist(n.logFolder()) {
-		if isOld, err = n.load(); err != nil || isOld {
+		if isOld, err = n.load(); err != nil {
 			return isOld, err
+		} else if isOld {
+			opened(n.wal)
+			return isOld, nil
 		}
 		// Killed in its first moments: it has promised nothing, and without its first entries it would wait for ever.
 		n.wal.Close()
@@ -84,9 +87,28 @@ func (n *Node) openLog() (isOld bool, err error) {
 			return false, err
 		}
 	}
-	n.wal, err = wal.Create(n.zap, n.logFolder(), n.metadata())
-	return false, err
+	if n.wal, err = wal.Create(n.zap, n.logFolder(), n.metadata()); err != nil {
+		return false, err
+	}
+	opened(n.wal)
+	return false, n.syncNames()
 }
+
+// syncNames makes the names of a new log safe from a power cut. Create has synced the name of the log's folder, but neither
+// that of the file in it nor that of this member's folder.
+func (n *Node) syncNames() error {
+	if err := syncFolder(n.logFolder()); err != nil {
+		return err
+	}
+	err := syncFolder(filepath.Dir(n.cfg.Dir))
+	if errors.Is(err, os.ErrPermission) {
+		return nil // (so this member did not make its folder)
+	}
+	return err
+}
+
+// opened is called with each log that is to be written; a test has it written without syncs.
+var opened = func(*wal.WAL) {}
 
 // load begins in the newest snapshot that is whole, and reads the log behind it. It returns false if the log has no hard
 // state: then no vote was given, and nothing acknowledged.
@@ -229,7 +251,8 @@ func (n *Node) fileOf(index uint64) string {
 	return filepath.Join(n.snapFolder(), fmt.Sprintf("%016x.snap.db", index))
 }
 
-func syncFolder(path string) error {
+// syncFolder makes the names in a folder safe from a power cut. (A variable, so that tests can pass it over)
+var syncFolder = func(path string) error {
 	folder, err := os.Open(path)
 	if err != nil {
 		return err

@@ -10,7 +10,6 @@ import (
 
 	"go.etcd.io/etcd/raft"
 	"go.etcd.io/etcd/raft/raftpb"
-	"go.etcd.io/etcd/wal/walpb"
 
 	"lrcman/service/internal/engine"
 )
@@ -178,8 +177,7 @@ func (n *Node) saveReceived(received raftpb.Snapshot) {
 		n.must("the snapshot of the leader can't be read", err)
 	}
 	n.failAll() // what waits may be in it, and is not applied here any more
-	n.must("a snapshot can't be written", n.snaps.SaveSnap(received))
-	n.must("the log can't be written", n.wal.SaveSnapshot(walpb.Snapshot{Index: m.Index, Term: m.Term}))
+	n.record(received)
 }
 
 // takeReceived goes on behind a snapshot of the leader that is saved.

@@ -96,9 +96,7 @@ func (n *Node) write(index uint64, conf raftpb.ConfState, head head, write func(
 	} else if err != nil {
 		return err
 	}
-	// The file, then its record: a record without a file could not be started from.
-	n.must("a snapshot can't be written", n.snaps.SaveSnap(made))
-	n.must("the log can't be written", n.wal.SaveSnapshot(walpb.Snapshot{Index: index, Term: made.Metadata.Term}))
+	n.record(made)
 	atomic.StoreUint64(&n.saved, index)
 	if index > n.cfg.Trailing {
 		if err := n.storage.Compact(index - n.cfg.Trailing); err != nil && err != raft.ErrCompacted {
@@ -106,6 +104,15 @@ func (n *Node) write(index uint64, conf raftpb.ConfState, head head, write func(
 		}
 	}
 	return n.purge()
+}
+
+// record saves the metadata of a snapshot whose file is there, and then notes it in the log: a record without a file could not
+// be started from. So the names have to be on disk before it, too.
+func (n *Node) record(made raftpb.Snapshot) {
+	m := made.Metadata
+	n.must("a snapshot can't be written", n.snaps.SaveSnap(made))
+	n.must("the folder of snapshots can't be synced", syncFolder(n.snapFolder()))
+	n.must("the log can't be written", n.wal.SaveSnapshot(walpb.Snapshot{Index: m.Index, Term: m.Term}))
 }
 
 func (n *Node) writeFile(path string, head head, write func(io.Writer) error) error {
@@ -175,7 +182,8 @@ func (n *Node) purgeSnapshots(kept map[uint64]bool, last uint64) error {
 	return nil
 }
 
-// purgeLog removes the files of the log that have only entries up to an index.
+// purgeLog removes the files of the log that have only entries up to an index. Each removal is synced: a power cut that left an
+// older file without a later one would leave a log that no start can read.
 func (n *Node) purgeLog(upTo uint64) error {
 	names, err := filepath.Glob(filepath.Join(n.logFolder(), "*.wal")) // (sorted: the oldest first)
 	if err != nil {
@@ -190,6 +198,9 @@ func (n *Node) purgeLog(upTo uint64) error {
 			return nil
 		}
 		if err := os.Remove(names[i]); err != nil {
+			return err
+		}
+		if err := syncFolder(n.logFolder()); err != nil {
 			return err
 		}
 	}
