@@ -42,6 +42,8 @@ class Asker:
                 self.connection, self.port = http.client.HTTPConnection("127.0.0.1", port, timeout=self.limit), port
             self.connection.request(method, path, body, headers or {})
             answer = self.connection.getresponse()
+            if answer.length is None and not answer.chunked:
+                raise http.client.IncompleteRead(b"")  # (it broke off within its head)
             return answer.status, answer.headers, answer.read()
         except (OSError, http.client.HTTPException):
             self.close()
@@ -65,7 +67,7 @@ class Member:
     def __init__(self, group, number, words):
         self.group, self.number, self.words = group, number, words
         self.client, self.peer = free_port(), free_port()
-        self.front = self.client  # where clients ask
+        self.front, self.listen = self.client, self.peer  # where clients ask, and where it listens for other members
         self.folder = os.path.join(group.folder, f"member{number}")
         self.log = f"{self.folder}.log"
         self.process, self.is_stopped, self.is_first = None, False, False
@@ -110,8 +112,12 @@ class Group:
         for number in range(1, size + 1):
             self.members[number] = Member(self, number, self.words)
             self.members[number].is_first = True
-        self.first = ",".join(f"{it.number}=127.0.0.1:{it.peer}/127.0.0.1:{it.client}" for it in self.members.values())
+        self.renew_first()
         self.asker = Asker(3)
+
+    def renew_first(self):
+        """The list of the first members, with the addresses at which they are reached."""
+        self.first = ",".join(f"{it.number}=127.0.0.1:{it.peer}/127.0.0.1:{it.client}" for it in self.members.values())
 
     def __enter__(self):
         for member in self.members.values():
@@ -125,7 +131,7 @@ class Group:
 
     def start(self, member):
         if member.is_first:
-            member.start("--members", self.first)
+            member.start("--members", self.first, "--peer", f"127.0.0.1:{member.listen}")
         else:
             member.start("--join", "--peer", f"127.0.0.1:{member.peer}")
 

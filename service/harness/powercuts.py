@@ -6,7 +6,7 @@ from collections import Counter
 import harness
 from cluster import Group
 from disks import Disks, NoDisk
-from work import Run, Work, make_books
+from work import LEAST, Run, Work, make_books
 
 WORDS = ["--election", "400ms", "--snapshot-every", "60", "--trailing", "10", "--tick", "0"]
 
@@ -45,7 +45,7 @@ def power_cuts(program, powercut, folder, nodes, size, seconds, seed, env=None):
         work = Work(group, nodes, callers=6)
         work.begin()
         cuts, end = Cuts(group, disks, seed, run), time.monotonic() + seconds
-        while time.monotonic() < end and not run.faults and not work.faults_so_far():
+        while work.goes_on(end) and not run.faults and not work.faults_so_far():
             time.sleep(cuts.random.uniform(0.1, 0.9))
             run.faults += cuts.ended()
             if not run.faults:
@@ -84,7 +84,7 @@ def test_power_cuts(count, program, faulty, powercut, room, nodes, seconds):
             run = power_cuts(which, powercut, f"{room}/cuts{size}{bool(env)}", nodes, size, seconds, seed, env)
             print(f"power cuts, {name}, seed {seed}: {run}", flush=True)
             count.add(max(run.told + run.looks + run.entries - len(run.faults), 0), run.faults)
-            count.check(f"something happened: {run}", run.told > 50 and sum(run.acts.values()) > 2)
+            count.check(f"something happened: {run}", run.told >= LEAST and sum(run.acts.values()) > 2)
         for fault in FAULTS:
             run, seed = find_fault(faulty, powercut, room, nodes, fault)
             print(f"power cuts, {fault}: found in run {seed}: {run.faults[:1]}"[:200], flush=True)

@@ -3,8 +3,8 @@ import time
 
 import harness
 import rules
-from chaos import make_books
 from cluster import Group
+from work import make_books
 
 # The program with the tag `faulty` takes its library for one of the rules that this names.
 OLD, NEW = {"LRCMAND_RULES": "1"}, {"LRCMAND_RULES": "2"}

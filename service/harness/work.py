@@ -5,6 +5,7 @@ from clients import Caller, Looker, Reader
 from judge import image_of, judge
 
 BOOKS = ["p0", "p1", "p2"]
+LEAST = 50  # so many calls are told in a run, on a slow machine too
 
 
 class Run:
@@ -49,6 +50,11 @@ class Work:
 
     def told(self):
         return [*(it for one in self.calls for it in one.told), *self.more]
+
+    def goes_on(self, end):
+        """Until a time, and on a slow machine until enough was told."""
+        now = time.monotonic()
+        return now < end or now < end + 60 and sum(len(one.told) for one in self.calls) < LEAST and not self.faults_so_far()
 
     def faults_so_far(self):
         return [f"{type(it).__name__}: {it.fault}" for it in [*self.calls, *self.looks, *self.reads] if it.fault]

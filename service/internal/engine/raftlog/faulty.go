@@ -17,5 +17,7 @@ func init() {
 		opened = func(log *wal.WAL) { log.SetUnsafeNoFsync() }
 	case "nonames": // only what etcd's parts sync is synced
 		syncFolder = func(string) error { return nil }
+	case "stale": // looks as of now are as old as they happen to be
+		askMajority = func(*Node) error { return nil }
 	}
 }

@@ -61,10 +61,13 @@ func (n *Node) readLoop() {
 		now := n.round
 		n.round = newRound()
 		n.mu.Unlock()
-		now.err = n.readIndex()
+		now.err = askMajority(n)
 		close(now.over)
 	}
 }
+
+// askMajority is a variable, so that tests can pass it over.
+var askMajority = (*Node).readIndex
 
 // readIndex asks the leader, who asks a majority whether it still is. Raft drops the question without a word where there is
 // no leader, or a new one that has committed nothing yet, or where a message is lost. So it is asked again, with another
