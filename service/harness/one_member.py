@@ -3,6 +3,7 @@ import os
 import subprocess
 import time
 
+import coded
 import harness
 import rules
 import shown
@@ -35,6 +36,37 @@ def run_example(count, asker, member, name):
         count.check(f"{name}: show {view}: {text}", text == shown.shown(view, store, len(scripts[0])))
     text = asker.ask(member.client, "GET", f"/books/{book}/image")[2].decode()
     count.check(f"{name}: image: {text}", text == store.image(len(scripts[0])))
+    compare_recipes(count, asker, member, book, store)
+
+
+def recipe_of(asker, member, book, query):
+    """The status of a recipe, and the coefficient and the home of each fragment that it reads."""
+    status, told = asker.json(member.client, "GET", f"/books/{book}/recipe?now=1&{query}")
+    rows = told.get("rows", ())
+    return status, {row["fragment"]: row["coefficient"] for row in rows}, {row["fragment"]: row["home"] for row in rows}
+
+
+def compare_recipe(count, asker, member, book, store, key, further):
+    """One recipe: that of a live lease, or with further missing fragments that of any."""
+    stripe, fragment = key
+    code, missing = store.stripes[stripe], store.missing(stripe) | rules.set_of(further)
+    query = "".join(f"&missing={it}" for it in further)
+    status, sources, homes = recipe_of(asker, member, book, f"stripe={stripe}&fragment={fragment}{query}")
+    if not coded.is_known(code, missing, fragment):
+        return count.check(f"{book} {key} without {further}: {status}", status == 409)
+    right = {source: shown.home_of(store, stripe, source) for source in sources}
+    is_right = status == 200 and coded.fault_of(code, missing, fragment, sources) is None and homes == right
+    return count.check(f"{book} {key} without {further}: {status} {sources} {homes}", is_right)
+
+
+def compare_recipes(count, asker, member, book, store):
+    """The recipe of each lease, and of each fragment where it and others are missing."""
+    for stripe, code in store.stripes.items():
+        for fragment in code.fragments:
+            if (stripe, fragment) in store.leases:
+                compare_recipe(count, asker, member, book, store, (stripe, fragment), ())
+            for further in ((fragment,), (fragment, 0, 1), (fragment, 2, 3, 6)):
+                compare_recipe(count, asker, member, book, store, (stripe, fragment), further)
 
 
 EXAMPLES = ["every_reply", "each_mode_and_level", "narrow_stripe_placed_anew", "rolling_upgrade", "nodes_fail_under_both_codes",

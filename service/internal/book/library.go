@@ -56,6 +56,8 @@ const (
 	_ = uint(C.sizeof_lrc_home - unsafe.Sizeof(Home{}))
 	_ = uint(unsafe.Sizeof(Plan{}) - C.sizeof_lrc_repair_plan)
 	_ = uint(C.sizeof_lrc_repair_plan - unsafe.Sizeof(Plan{}))
+	_ = uint(unsafe.Sizeof(Recipe{}) - C.sizeof_lrc_recipe)
+	_ = uint(C.sizeof_lrc_recipe - unsafe.Sizeof(Recipe{}))
 )
 
 // A Book is one book of the library. One goroutine at a time may use it, looks included.

@@ -439,16 +439,23 @@ func readsOf(repair Repair, row StripeRow) int {
 	return 0
 }
 
-// An Unknown says that an outage names a node or a domain that there is not.
+// An Unknown says that a look names what there is not: a node or a domain of an outage; a stripe, a fragment or its lease.
 type Unknown struct {
 	What   string
 	Number uint64
 }
 
-// Error has the words of docs/FORMATS.md.
+// Error has the words of docs/FORMATS.md, where it has some.
 func (u *Unknown) Error() string {
-	if u.What == "node" {
+	switch u.What {
+	case "node":
 		return fmt.Sprintf("there is no such node: node %d", u.Number)
+	case "stripe":
+		return fmt.Sprintf("there is no stripe %d", u.Number)
+	case "fragment":
+		return fmt.Sprintf("the stripe has no fragment %d", u.Number)
+	case "lease":
+		return fmt.Sprintf("there is no live lease of fragment %d: name what is missing", u.Number)
 	}
 	return fmt.Sprintf("no node is in this %s domain: %s %d", u.What, u.What, u.Number)
 }

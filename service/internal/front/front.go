@@ -114,6 +114,8 @@ func failureOf(err error) *failure {
 		return &failure{Status: http.StatusGone, Words: err.Error(), Before: &forgotten.First}
 	case errors.Is(err, state.ErrNoBook), errors.As(err, &unknown), book.IsUnknown(err):
 		return &failure{Status: http.StatusNotFound, Words: err.Error()}
+	case errors.Is(err, book.ErrUndetermined):
+		return &failure{Status: http.StatusConflict, Words: err.Error()}
 	case errors.As(err, &refused):
 		return &failure{Status: http.StatusConflict, Words: err.Error()}
 	case errors.Is(err, engine.ErrUnknown):
@@ -156,6 +158,7 @@ func init() {
 		{"POST", "snapshot", Operate, "", (*request).snapshot},
 		{"GET", "rules", Look, "", (*request).rules},
 		{"PUT", "rules", Operate, "", (*request).changeRules},
+		{"GET", "matrix", Look, "code", (*request).matrix},
 		{"GET", "books", Look, "now", (*request).books},
 		{"PUT", "books/{book}", Operate, "", (*request).create},
 		{"DELETE", "books/{book}", Operate, "", (*request).remove},
@@ -168,6 +171,7 @@ func init() {
 		{"GET", "books/{book}/stripes/{stripe}", Look, "now format", (*request).stripe},
 		{"GET", "books/{book}/show/{view}", Look, "now format", (*request).show},
 		{"GET", "books/{book}/workers", Look, "now", (*request).workers},
+		{"GET", "books/{book}/recipe", Look, "now format stripe fragment missing", (*request).recipe},
 		{"GET", "books/{book}/may-stop", Look, "now format node fault upgrade", (*request).mayStop},
 		{"GET", "books/{book}/may-lose", Look, "now format node fault upgrade", (*request).mayLose},
 		{"GET", "books/{book}/log", Look, "from follow", (*request).log},
@@ -252,6 +256,9 @@ func (q *request) answer() error {
 	return route.serve(q)
 }
 
+// isSet are the parameters that may come again.
+var isSet = map[string]bool{"node": true, "fault": true, "upgrade": true, "missing": true}
+
 func (q *request) readQuery(taken string) error {
 	query, err := url.ParseQuery(q.r.URL.RawQuery)
 	if err != nil {
@@ -265,7 +272,7 @@ func (q *request) readQuery(taken string) error {
 		if !isTaken {
 			return bad("there is no parameter %q here", name)
 		}
-		if isSet := name == "node" || name == "fault" || name == "upgrade"; len(values) > 1 && !isSet {
+		if len(values) > 1 && !isSet[name] {
 			return bad("the parameter %q comes twice", name)
 		}
 	}

@@ -14,7 +14,7 @@ var routes = map[string]bool{"/": true, "/events": true, "/metrics": true, "/hea
 	"/books/{book}/show/status": true, "/books/{book}/show/stripes": true, "/books/{book}/show/nodes": true,
 	"/books/{book}/show/leases": true, "/books/{book}/show/work": true, "/books/{book}/may-stop": true,
 	"/books/{book}/may-lose": true, "/books/{book}/log": true, "/books/{book}/workers": true,
-	"/leader/{id}": true}
+	"/books/{book}/recipe": true, "/matrix": true, "/leader/{id}": true, "/rules": true}
 
 // routeOf is the route of a path, or "other", and the name of the book in it.
 func routeOf(path string) (route, book string) {
