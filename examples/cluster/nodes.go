@@ -1,0 +1,142 @@
+package main
+
+import (
+	"bytes"
+	"encoding/json"
+	"fmt"
+	"hash/crc32"
+	"io"
+	"net/http"
+	"sort"
+	"strconv"
+	"sync"
+	"time"
+)
+
+// Nodes asks the nodes of a cluster.
+type Nodes struct {
+	cluster *Cluster
+	client  http.Client
+}
+
+func newNodes(cluster *Cluster) *Nodes {
+	return &Nodes{cluster, http.Client{Timeout: 5 * time.Second, Transport: &http.Transport{MaxIdleConnsPerHost: 4}}}
+}
+
+// comparesChecksums is true. (A faulty program, which only tests make, takes whatever bytes a node gives)
+var comparesChecksums = true
+
+func (n *Nodes) ask(number int, method, path string, body []byte) (text []byte, head http.Header, err error) {
+	node, err := n.cluster.node(number)
+	if err != nil {
+		return nil, nil, err
+	}
+	request, err := http.NewRequest(method, "http://"+node.Address+path, bytes.NewReader(body))
+	if err != nil {
+		return nil, nil, err
+	}
+	if body != nil {
+		request.Header.Set("Checksum", strconv.FormatUint(uint64(crc32.ChecksumIEEE(body)), 16))
+	}
+	answer, err := n.client.Do(request)
+	if err != nil {
+		return nil, nil, err
+	}
+	defer answer.Body.Close()
+	text, err = io.ReadAll(answer.Body)
+	if err == nil && answer.StatusCode == http.StatusConflict {
+		err = errFenced
+	} else if err == nil && answer.StatusCode != http.StatusOK {
+		err = fmt.Errorf("node %d answers %d: %s", number, answer.StatusCode, bytes.TrimSpace(text))
+	}
+	return text, answer.Header, err
+}
+
+// Write writes a fragment, durable when it returns. errFenced: a newer epoch is there.
+func (n *Nodes) Write(node int, name Name, text []byte) error {
+	_, _, err := n.ask(node, "PUT", "/fragments/"+name.String(), text)
+	return err
+}
+
+// Delete deletes a fragment, if no newer epoch is there.
+func (n *Nodes) Delete(node int, name Name) error {
+	_, _, err := n.ask(node, "DELETE", "/fragments/"+name.String(), nil)
+	return err
+}
+
+// Empty deletes all that is on a node.
+func (n *Nodes) Empty(node int) error {
+	_, _, err := n.ask(node, "DELETE", "/fragments", nil)
+	return err
+}
+
+// Answers tells whether a node answers.
+func (n *Nodes) Answers(node int) bool {
+	_, _, err := n.ask(node, "GET", "/", nil)
+	return err == nil
+}
+
+// Damaged are the fragments on a node whose checksum is wrong.
+func (n *Nodes) Damaged(node int) (names []Name, err error) {
+	text, _, err := n.ask(node, "GET", "/damaged", nil)
+	if err == nil {
+		err = json.Unmarshal(text, &names)
+	}
+	return names, err
+}
+
+// Read reads a fragment, and compares its checksum.
+func (n *Nodes) Read(node, stripe, fragment int) ([]byte, error) {
+	text, head, err := n.ask(node, "GET", "/fragments/"+Name{stripe, fragment, 0}.place(), nil)
+	sum := strconv.FormatUint(uint64(crc32.ChecksumIEEE(text)), 16)
+	if err == nil && comparesChecksums && head.Get("Checksum") != sum {
+		err = fmt.Errorf("fragment %d.%d on node %d is damaged", stripe, fragment, node)
+	}
+	return text, err
+}
+
+// ReadAll reads fragments of a stripe at their homes, all at once. It returns those that could be read, and the numbers of the
+// others.
+func (n *Nodes) ReadAll(stripe int, homes map[int]int) (map[int][]byte, []int) {
+	var mu sync.Mutex
+	var wait sync.WaitGroup
+	found, failed := map[int][]byte{}, []int(nil)
+	for fragment, node := range homes {
+		wait.Add(1)
+		go func(fragment, node int) {
+			defer wait.Done()
+			text, err := n.Read(node, stripe, fragment)
+			mu.Lock()
+			defer mu.Unlock()
+			if err == nil {
+				found[fragment] = text
+			} else {
+				failed = append(failed, fragment)
+			}
+		}(fragment, node)
+	}
+	wait.Wait()
+	sort.Ints(failed)
+	return found, failed
+}
+
+// rebuild gives the bytes of a fragment by its recipe, and how many fragments it read. Sources that can't be read are named as
+// missing when it asks again, until there is a recipe without them, or none at all.
+func rebuild(book *Book, nodes *Nodes, stripe, fragment int, missing []int) ([]byte, int, error) {
+	for {
+		homes, recipe, err := book.Recipe(stripe, fragment, missing)
+		if err != nil {
+			return nil, 0, err
+		}
+		found, failed := nodes.ReadAll(stripe, homes)
+		if len(failed) == 0 {
+			var row []byte
+			var sources [][]byte
+			for _, source := range recipe {
+				row, sources = append(row, source.Coefficient), append(sources, found[source.Fragment])
+			}
+			return combine([][]byte{row}, sources)[0], len(sources), nil
+		}
+		missing = append(missing, failed...)
+	}
+}

@@ -1,0 +1,179 @@
+"""The processes of a small store on this machine: lrcmand, nodes, a gateway, workers and a monitor, on ports of loopback."""
+import http.client
+import json
+import os
+import random
+import shutil
+import signal
+import socket
+import subprocess
+import time
+
+# A wide stripe takes 16 racks, and one more for each that is lost. With 18, and 12 upgrade domains, each stripe finds its seats
+# also while a rack is gone or a domain is upgrading.
+RACKS, DOMAINS, NODES, SLOTS = 18, 12, 36, 64
+WORKERS, BOOK, TICK = 4, "p0", 5
+LIMIT = 120  # seconds, for whatever has to happen at some time
+
+
+class Wrong(Exception):
+    """What was seen is not what has to be."""
+
+
+def until(what, is_so, limit=LIMIT):
+    end = time.monotonic() + limit
+    while not is_so():
+        if time.monotonic() > end:
+            raise Wrong(f"{what}: not within {limit} s")
+        time.sleep(0.05)
+
+
+def free_ports(count):
+    """Ports below those that systems give to clients, which nobody has now."""
+    ports = []
+    for port in random.sample(range(15000, 30000), 4 * count):
+        with socket.socket() as one:
+            if len(ports) < count and one.connect_ex(("127.0.0.1", port)):
+                ports.append(port)
+    return ports
+
+
+def ask(port, method, path, body=None, headers=None):
+    """The status, the headers and the bytes of an answer. Status 0: there is none."""
+    connection = http.client.HTTPConnection("127.0.0.1", port, timeout=30)
+    try:
+        connection.request(method, path, body, headers or {})
+        answer = connection.getresponse()
+        return answer.status, answer.headers, answer.read()
+    except (OSError, http.client.HTTPException):
+        return 0, {}, b""
+    finally:
+        connection.close()
+
+
+class Node:
+    """Where a node stands, and its port and folder."""
+
+    def __init__(self, number, port, folder):
+        self.number, self.port, self.folder = number, port, os.path.join(folder, f"node-{number}")
+        self.rack, self.domain = number % RACKS, number % DOMAINS
+
+
+class Store:
+    """All processes, by name. What each of them says is in FOLDER/NAME.log."""
+
+    def __init__(self, folder, lrcmand, program, members):
+        self.folder, self.lrcmand, self.program = folder, lrcmand, program
+        ports = free_ports(NODES + 2 * members + 1)
+        self.nodes = [Node(number, ports.pop(), folder) for number in range(NODES)]
+        self.members = {number: (ports.pop(), ports.pop()) for number in range(1, members + 1)}
+        self.gateway, self.processes = ports.pop(), {}
+
+    def __enter__(self):
+        return self
+
+    def __exit__(self, *_):
+        for name in self.processes:
+            self.end(name, signal.SIGKILL)
+
+    def start(self, name, *words):
+        with open(f"{self.folder}/{name}.log", "ab") as said:
+            self.processes[name] = subprocess.Popen(words, stdout=said, stderr=said)
+
+    def start_own(self, name, command, *words):
+        self.start(name, self.program, command, "--cluster", f"{self.folder}/cluster.json", *words)
+
+    def end(self, name, how=signal.SIGTERM):
+        if self.processes[name].poll() is None:
+            self.processes[name].send_signal(how)
+        self.processes[name].wait()
+
+    def start_node(self, node):
+        self.start_own(f"node-{node.number}", "node", "--number", str(node.number), "--folder", node.folder)
+
+    def start_workers(self):
+        for number in range(1, WORKERS + 1):
+            self.start_own(f"worker-{number}", "worker", "--number", str(number))
+
+    def end_workers(self):
+        for number in range(1, WORKERS + 1):
+            self.end(f"worker-{number}")
+
+    def lose_node(self, node):
+        """Its process is killed, and its disk is gone."""
+        self.end(f"node-{node.number}", signal.SIGKILL)
+        shutil.rmtree(node.folder)
+
+    def is_up(self, port, path="/"):
+        return ask(port, "GET", path)[0] == 200
+
+    def start_members(self):
+        """Starts lrcmand, and makes the book."""
+        group = ",".join(f"{number}=127.0.0.1:{peer}/127.0.0.1:{client}" for number, (peer, client) in self.members.items())
+        words = ["--members", group] if len(self.members) > 1 else []
+        for number, (_, client) in self.members.items():
+            place = ["--data", f"{self.folder}/member-{number}", "--id", str(number), "--listen", f"127.0.0.1:{client}"]
+            self.start(f"lrcmand-{number}", self.lrcmand, *place, "--tick", str(TICK), *words)
+        for _, client in self.members.values():
+            until("lrcmand is ready", lambda port=client: self.is_up(port, "/health"))
+        self.ask_book("PUT", "", self.topology().encode())
+
+    def topology(self):
+        rows = [f"number = {it.number}\nfault = {it.rack}\nupgrade = {it.domain}\nslots = {SLOTS}\n" for it in self.nodes]
+        return "".join(f"[[node]]\n{row}" for row in rows)
+
+    def start_all(self):
+        """Starts all but the workers."""
+        self.start_members()
+        value = {
+            "Book": BOOK, "Gateway": f"127.0.0.1:{self.gateway}",
+            "Servers": [f"127.0.0.1:{client}" for _, client in self.members.values()],
+            "Nodes": [{"Number": it.number, "Address": f"127.0.0.1:{it.port}"} for it in self.nodes],
+        }
+        with open(f"{self.folder}/cluster.json", "w", encoding="utf-8") as file:
+            json.dump(value, file)
+        for node in self.nodes:
+            self.start_node(node)
+        for node in self.nodes:
+            until(f"node {node.number} answers", lambda port=node.port: self.is_up(port))
+        self.start_own("gateway", "gateway", "--folder", f"{self.folder}/gateway")
+        until("the gateway answers", lambda: self.is_up(self.gateway))
+        self.start_own("monitor", "monitor")
+
+    # The book.
+
+    def ask_book(self, method, path, body=None, headers=None):
+        """Asks the members in turn until one knows the answer; returns its bytes."""
+        for turn in range(LIMIT * 10):
+            port = list(self.members.values())[turn % len(self.members)][1]
+            status, _, text = ask(port, method, f"/books/{BOOK}{path}", body, headers)
+            if status == 200:
+                return text
+            if 400 <= status < 500 and status != 429:
+                raise Wrong(f"lrcmand: {method} {path}: {text.decode()}")
+            time.sleep(0.1)
+        raise Wrong(f"lrcmand does not answer: {method} {path}")
+
+    def rows(self, path):
+        return json.loads(self.ask_book("GET", f"{path}?now=1"))["rows"]
+
+    def call(self, command, worker=""):
+        body = json.dumps({"command": command, "worker": worker, "key": random.randbytes(8).hex()})
+        return json.loads(self.ask_book("POST", "/call", body, {"Content-Type": "application/json"}))
+
+    def change(self, command):
+        reply = self.call(command)["reply"]
+        if reply != "changed":
+            raise Wrong(f"{command}: {reply}")
+
+    def node_row(self, number):
+        return next(row for row in self.rows("/show/nodes") if row["node"] == number)
+
+    def is_whole(self):
+        """Every fragment has a home that is online, and no lease lives."""
+        values = {row["name"]: row["value"] for row in self.rows("")}
+        return values["whole"] == values["stripes"] and not values["leases"]
+
+    def home(self, stripe, fragment):
+        """The node that a fragment is on."""
+        return self.nodes[int(self.rows(f"/stripes/{stripe}")[0][f"home_{fragment}"].split(":")[0])]

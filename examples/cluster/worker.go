@@ -1,0 +1,99 @@
+package main
+
+import (
+	"fmt"
+	"time"
+)
+
+const (
+	pauseOfWorker = 100 * time.Millisecond // while there is nothing to do
+	mostReports   = 100                    // while the target is offline
+)
+
+// A worker takes leases, brings the bytes of their fragments onto their targets, and reports.
+type worker struct {
+	name  string
+	book  *Book
+	nodes *Nodes
+}
+
+// A result is what became of a lease.
+type result struct {
+	isDone bool
+	words  string
+	reads  int // fragments
+}
+
+// repair does the work of a lease. Fragments that are named as missing are not read: so a damaged one is rebuilt and not moved.
+func (w *worker) repair(lease Reply, missing []int) (result, error) {
+	name := Name{lease.Stripe, lease.Fragment, lease.Epoch}
+	homes, err := w.book.Homes(lease.Stripe)
+	if err != nil {
+		return result{}, err
+	}
+	text, reads, err := rebuild(w.book, w.nodes, lease.Stripe, lease.Fragment, missing)
+	if err == nil {
+		err = w.nodes.Write(lease.Target.Node, name, text)
+	}
+	switch {
+	case err == errFenced: // a later lease was granted, and its worker has written
+		return result{words: err.Error()}, nil
+	case err != nil: // what is left does not determine it now, or the target does not answer
+		reply, abandoned := w.book.Call(w.name, fmt.Sprintf("abandon %d %d %d", lease.Stripe, lease.Fragment, lease.Epoch))
+		return result{words: fmt.Sprintf("abandoned (%s): %v", reply.Line, err)}, abandoned
+	}
+	done, err := w.report(lease, name)
+	if former, isThere := homes[lease.Fragment]; done.isDone && isThere && former != lease.Target.Node {
+		_ = w.nodes.Delete(former, Name{name.Stripe, name.Fragment, name.Epoch - 1}) // (what is left takes room, and is never read)
+	}
+	done.reads = reads
+	return done, err
+}
+
+// report tells the book that the fragment is on its target.
+func (w *worker) report(lease Reply, name Name) (result, error) {
+	for try := 0; ; try++ {
+		reply, err := w.book.Call(w.name, fmt.Sprintf("done %d %d %d", lease.Stripe, lease.Fragment, lease.Epoch))
+		switch {
+		case err != nil:
+			return result{}, err
+		case reply.Kind == "ended":
+			return result{isDone: true, words: "done"}, nil
+		case reply.Refusal == notHolder: // what is there under this epoch is another worker's
+			return result{words: reply.Line}, nil
+		case reply.Refusal == targetOffline && try < mostReports: // until it is back, or the lease ends
+			time.Sleep(pauseOfWorker)
+		default: // the lease has ended: what was written is nobody's
+			return result{words: reply.Line}, w.nodes.Delete(lease.Target.Node, name)
+		}
+	}
+}
+
+// turn works on one lease, and tells whether there was one.
+func (w *worker) turn() (bool, error) {
+	lease, err := w.book.Next(w.name)
+	if err != nil || lease.Kind != "granted" {
+		return false, err
+	}
+	done, err := w.repair(lease, nil)
+	fmt.Printf("stripe %d fragment %d epoch %d %s reads %d: %s\n", lease.Stripe, lease.Fragment, lease.Epoch, lease.Repair, done.reads,
+		done.words)
+	return done.isDone, err
+}
+
+func workerCommand(words []string) error {
+	given, err := parseOptions("worker", words)
+	if err != nil {
+		return err
+	}
+	w := &worker{fmt.Sprintf("worker-%d", given.number), newBook(given.cluster), newNodes(given.cluster)}
+	for {
+		isDone, err := w.turn()
+		if err != nil {
+			fmt.Println("worker:", err) // and go on: the lease ends by ticks
+		}
+		if !isDone {
+			time.Sleep(pauseOfWorker)
+		}
+	}
+}
