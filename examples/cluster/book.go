@@ -17,7 +17,6 @@ import (
 
 // The refusals of docs/RULES.md that this program tells apart.
 const (
-	stripeExists  = 102
 	noLawfulNode  = 103
 	notHolder     = 114
 	targetOffline = 115
@@ -52,7 +51,14 @@ type failure struct {
 	Words  string `json:"error"`
 }
 
+// Error has the status and the words.
 func (f *failure) Error() string { return fmt.Sprintf("lrcmand answers %d: %s", f.Status, f.Words) }
+
+// isUndetermined tells whether an error says that there is no recipe: what is left does not determine the fragment.
+func isUndetermined(err error) bool {
+	var told *failure
+	return errors.As(err, &told) && told.Status == http.StatusConflict
+}
 
 // A Book asks lrcmand about the book of the cluster.
 type Book struct {
@@ -159,23 +165,46 @@ func (b *Book) Recipe(stripe, fragment int, missing []int) (map[int]int, []Sourc
 	return homes, told.Rows, nil
 }
 
-// Homes gives the node of each fragment of a stripe that has a home.
-func (b *Book) Homes(stripe int) (map[int]int, error) {
+// A Stripe is a stripe with the node of each fragment that has a home.
+type Stripe struct {
+	Number int
+	Homes  map[int]int
+}
+
+// Stripe looks where the fragments of a stripe are.
+func (b *Book) Stripe(number int) (Stripe, error) {
+	rows, err := b.stripes(fmt.Sprintf("/stripes/%d", number))
+	if err != nil {
+		return Stripe{}, err
+	}
+	return rows[0], nil
+}
+
+// Stripes are all stripes.
+func (b *Book) Stripes() ([]Stripe, error) { return b.stripes("/show/stripes") }
+
+func (b *Book) stripes(path string) ([]Stripe, error) {
 	var told struct{ Rows []map[string]interface{} }
-	if err := b.ask("GET", fmt.Sprintf("%s/stripes/%d?now=1", b.path, stripe), nil, &told); err != nil {
+	if err := b.ask("GET", b.path+path+"?now=1", nil, &told); err != nil {
 		return nil, err
 	}
-	homes := map[int]int{}
-	for fragment := 0; fragment < fragmentsOfStripe; fragment++ {
-		if seat, isThere := told.Rows[0][fmt.Sprintf("home_%d", fragment)].(string); isThere {
+	stripes := make([]Stripe, len(told.Rows))
+	for i, row := range told.Rows {
+		number, _ := row["stripe"].(float64)
+		stripes[i] = Stripe{int(number), map[int]int{}}
+		for fragment := 0; fragment < fragmentsOfStripe; fragment++ {
+			seat, isThere := row[fmt.Sprintf("home_%d", fragment)].(string)
+			if !isThere {
+				continue
+			}
 			node, err := nodeOf(seat)
 			if err != nil {
 				return nil, err
 			}
-			homes[fragment] = node
+			stripes[i].Homes[fragment] = node
 		}
 	}
-	return homes, nil
+	return stripes, nil
 }
 
 // nodeOf is the node of a seat, NODE:SLOT.

@@ -47,7 +47,7 @@ type Gateway struct {
 }
 
 func openGateway(cluster *Cluster, folder string) (*Gateway, error) {
-	g := &Gateway{book: newBook(cluster), nodes: newNodes(cluster), objects: map[string]Object{}}
+	g := &Gateway{book: newBook(cluster), nodes: newNodes(cluster, limitOfNodes), objects: map[string]Object{}}
 	var err error
 	if g.matrix, err = g.book.Matrix(); err != nil {
 		return nil, err
@@ -59,21 +59,53 @@ func openGateway(cluster *Cluster, folder string) (*Gateway, error) {
 	if err != nil {
 		return nil, err
 	}
-	for lines := bufio.NewScanner(g.index); lines.Scan(); {
+	lines := bufio.NewScanner(g.index)
+	for lines.Scan() {
 		var object Object
 		if json.Unmarshal(lines.Bytes(), &object) == nil { // (else it is a torn line, of which nobody was told)
 			g.remember(object)
 		}
 	}
-	return g, nil
+	if err := lines.Err(); err != nil {
+		return nil, err
+	}
+	return g, g.dropOthers()
+}
+
+// dropOthers drops the stripes that are in no object: a gateway before this one ended while it wrote them.
+func (g *Gateway) dropOthers() error {
+	stripes, err := g.book.Stripes()
+	if err != nil {
+		return err
+	}
+	known := map[int]bool{}
+	for _, object := range g.objects {
+		for _, stripe := range object.Stripes {
+			known[stripe] = true
+		}
+	}
+	for _, stripe := range stripes {
+		g.use(stripe.Number)
+		if !known[stripe.Number] {
+			if _, err := g.book.Call("", fmt.Sprintf("drop %d", stripe.Number)); err != nil {
+				return err
+			}
+		}
+	}
+	return nil
 }
 
 func (g *Gateway) remember(object Object) {
 	g.objects[object.Name] = object
 	for _, stripe := range object.Stripes {
-		if g.next <= stripe {
-			g.next = stripe + 1
-		}
+		g.use(stripe)
+	}
+}
+
+// use notes the number of a stripe as one that was used.
+func (g *Gateway) use(stripe int) {
+	if g.next <= stripe {
+		g.next = stripe + 1
 	}
 }
 
@@ -125,8 +157,6 @@ func (g *Gateway) putStripe(part []byte) (int, error) {
 			if _, err := g.book.Call("", fmt.Sprintf("drop %d", stripe)); err != nil {
 				return 0, err
 			}
-		case reply.Refusal == stripeExists: // it was placed before this process began
-			continue
 		case reply.Refusal != noLawfulNode:
 			return 0, errors.New(reply.Line)
 		}
@@ -168,16 +198,14 @@ func (g *Gateway) Get(object Object) (text []byte, degraded int, err error) {
 }
 
 func (g *Gateway) getStripe(stripe int) (part []byte, rebuilt int, err error) {
-	homes, err := g.book.Homes(stripe)
+	placed, err := g.book.Stripe(stripe)
 	if err != nil {
 		return nil, 0, err
 	}
-	for fragment := range homes {
-		if fragment >= dataOfStripe {
-			delete(homes, fragment) // a parity
-		}
+	for parity := dataOfStripe; parity < fragmentsOfStripe; parity++ {
+		delete(placed.Homes, parity)
 	}
-	found, _ := g.nodes.ReadAll(stripe, homes)
+	found, _ := g.nodes.ReadAll(stripe, placed.Homes)
 	var missing []int
 	for fragment := 0; fragment < dataOfStripe; fragment++ {
 		if found[fragment] == nil {

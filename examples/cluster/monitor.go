@@ -8,6 +8,7 @@ import (
 // How often nodes are asked, and how often in a row before the book is told.
 const (
 	pauseOfMonitor = 200 * time.Millisecond
+	limitOfMonitor = 2 * time.Second
 	missesToDown   = 3
 	missesToFail   = 15
 	answersToUp    = 2
@@ -97,7 +98,7 @@ func monitorCommand(words []string) error {
 	if err != nil {
 		return err
 	}
-	m := &monitor{newBook(given.cluster), newNodes(given.cluster), map[int]int{}}
+	m := &monitor{newBook(given.cluster), newNodes(given.cluster, limitOfMonitor), map[int]int{}}
 	for {
 		if err := m.round(); err != nil {
 			fmt.Println("monitor:", err)

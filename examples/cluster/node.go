@@ -175,24 +175,24 @@ func (s *Store) Empty() error {
 	return nil
 }
 
-// Damaged reads everything, and names the fragments whose checksum is wrong.
-func (s *Store) Damaged() []Name {
-	damaged := []Name{}
+// Whole reads everything, and names the fragments whose checksum is right.
+func (s *Store) Whole() []Name {
+	whole := []Name{}
 	for _, name := range s.names() {
-		if text, sum, err := s.Read(name.place()); err != nil && !errors.Is(err, os.ErrNotExist) || crc32.ChecksumIEEE(text) != sum {
-			damaged = append(damaged, name)
+		if text, sum, err := s.Read(name.place()); err == nil && crc32.ChecksumIEEE(text) == sum {
+			whole = append(whole, name)
 		}
 	}
-	return damaged
+	return whole
 }
 
-// ServeHTTP answers at /, /damaged, /fragments, /fragments/NAME and, to read, /fragments/STRIPE.FRAGMENT.
+// ServeHTTP answers at /, /fragments, /fragments/NAME and, to read, /fragments/STRIPE.FRAGMENT.
 func (s *Store) ServeHTTP(w http.ResponseWriter, r *http.Request) {
 	var err error
 	switch path := r.URL.Path; {
 	case path == "/":
-	case path == "/damaged" && r.Method == "GET":
-		err = json.NewEncoder(w).Encode(s.Damaged())
+	case path == "/fragments" && r.Method == "GET":
+		err = json.NewEncoder(w).Encode(s.Whole())
 	case path == "/fragments" && r.Method == "DELETE":
 		err = s.Empty()
 	case strings.HasPrefix(path, "/fragments/"):

@@ -13,14 +13,17 @@ import (
 	"time"
 )
 
+// limitOfNodes is how long a node may take to answer.
+const limitOfNodes = 10 * time.Second
+
 // Nodes asks the nodes of a cluster.
 type Nodes struct {
 	cluster *Cluster
 	client  http.Client
 }
 
-func newNodes(cluster *Cluster) *Nodes {
-	return &Nodes{cluster, http.Client{Timeout: 5 * time.Second, Transport: &http.Transport{MaxIdleConnsPerHost: 4}}}
+func newNodes(cluster *Cluster, limit time.Duration) *Nodes {
+	return &Nodes{cluster, http.Client{Timeout: limit, Transport: &http.Transport{MaxIdleConnsPerHost: 4}}}
 }
 
 // comparesChecksums is true. (A faulty program, which only tests make, takes whatever bytes a node gives)
@@ -76,9 +79,9 @@ func (n *Nodes) Answers(node int) bool {
 	return err == nil
 }
 
-// Damaged are the fragments on a node whose checksum is wrong.
-func (n *Nodes) Damaged(node int) (names []Name, err error) {
-	text, _, err := n.ask(node, "GET", "/damaged", nil)
+// Whole has a node read all its fragments, and gives the names of those whose checksum is right.
+func (n *Nodes) Whole(node int) (names []Name, err error) {
+	text, _, err := n.ask(node, "GET", "/fragments", nil)
 	if err == nil {
 		err = json.Unmarshal(text, &names)
 	}

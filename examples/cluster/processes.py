@@ -136,9 +136,12 @@ class Store:
             self.start_node(node)
         for node in self.nodes:
             until(f"node {node.number} answers", lambda port=node.port: self.is_up(port))
+        self.start_gateway()
+        self.start_own("monitor", "monitor")
+
+    def start_gateway(self):
         self.start_own("gateway", "gateway", "--folder", f"{self.folder}/gateway")
         until("the gateway answers", lambda: self.is_up(self.gateway))
-        self.start_own("monitor", "monitor")
 
     # The book.
 

@@ -4,39 +4,59 @@ import "fmt"
 
 // mend replaces a damaged fragment of a node that is well, as docs/CODING.md has it: it is leased as if its node were emptied, and
 // rebuilt without it.
-func mend(book *Book, nodes *Nodes, node int, damaged Name) (result, error) {
+func mend(book *Book, nodes *Nodes, stripe, fragment, node int) (result, error) {
 	if err := book.Change(fmt.Sprintf("drain %d", node)); err != nil {
 		return result{}, err
 	}
-	lease, err := book.Call("operator", fmt.Sprintf("lease %d %d", damaged.Stripe, damaged.Fragment))
+	lease, err := book.Call("scrub", fmt.Sprintf("lease %d %d", stripe, fragment))
 	if err := book.Change(fmt.Sprintf("undrain %d", node)); err != nil {
 		return result{}, err
 	}
 	if err != nil || lease.Kind != "granted" { // (where a worker was faster, it finds the checksum wrong and rebuilds too)
 		return result{words: lease.Line}, err
 	}
-	w := worker{"operator", book, nodes}
-	return w.repair(lease, []int{damaged.Fragment})
+	w := worker{"scrub", book, nodes}
+	return w.repair(lease, []int{fragment})
 }
 
-// scrubCommand has every node compare the checksums of all that it has, and mends what is damaged.
+// wholeOf are the places of the fragments that are whole, by node. A node that does not answer has none: the monitor knows of it.
+func wholeOf(nodes *Nodes) map[int]map[string]bool {
+	whole := map[int]map[string]bool{}
+	for _, node := range nodes.cluster.Nodes {
+		names, err := nodes.Whole(node.Number)
+		if err != nil {
+			continue
+		}
+		whole[node.Number] = map[string]bool{}
+		for _, name := range names {
+			whole[node.Number][name.place()] = true
+		}
+	}
+	return whole
+}
+
+// scrubCommand has every node compare the checksums of all that it has, and mends each fragment that is damaged or not there.
 func scrubCommand(words []string) error {
 	given, err := parseOptions("scrub", words)
 	if err != nil {
 		return err
 	}
-	book, nodes := newBook(given.cluster), newNodes(given.cluster)
-	for _, node := range given.cluster.Nodes {
-		damaged, err := nodes.Damaged(node.Number)
-		if err != nil {
-			return err
-		}
-		for _, name := range damaged {
-			done, err := mend(book, nodes, node.Number, name)
+	book, nodes := newBook(given.cluster), newNodes(given.cluster, limitOfNodes)
+	stripes, err := book.Stripes()
+	if err != nil {
+		return err
+	}
+	whole := wholeOf(nodes)
+	for _, stripe := range stripes {
+		for fragment, node := range stripe.Homes {
+			if whole[node] == nil || whole[node][Name{stripe.Number, fragment, 0}.place()] {
+				continue
+			}
+			done, err := mend(book, nodes, stripe.Number, fragment, node)
 			if err != nil {
 				return err
 			}
-			fmt.Printf("node %d stripe %d fragment %d reads %d: %s\n", node.Number, name.Stripe, name.Fragment, done.reads, done.words)
+			fmt.Printf("node %d stripe %d fragment %d reads %d: %s\n", node, stripe.Number, fragment, done.reads, done.words)
 		}
 	}
 	return nil

@@ -27,7 +27,7 @@ type result struct {
 // repair does the work of a lease. Fragments that are named as missing are not read: so a damaged one is rebuilt and not moved.
 func (w *worker) repair(lease Reply, missing []int) (result, error) {
 	name := Name{lease.Stripe, lease.Fragment, lease.Epoch}
-	homes, err := w.book.Homes(lease.Stripe)
+	placed, err := w.book.Stripe(lease.Stripe)
 	if err != nil {
 		return result{}, err
 	}
@@ -38,12 +38,14 @@ func (w *worker) repair(lease Reply, missing []int) (result, error) {
 	switch {
 	case err == errFenced: // a later lease was granted, and its worker has written
 		return result{words: err.Error()}, nil
-	case err != nil: // what is left does not determine it now, or the target does not answer
+	case isUndetermined(err): // the lease is kept until ticks end it, so that this worker goes on with others meanwhile
+		return result{words: err.Error()}, nil
+	case err != nil: // the target does not answer
 		reply, abandoned := w.book.Call(w.name, fmt.Sprintf("abandon %d %d %d", lease.Stripe, lease.Fragment, lease.Epoch))
 		return result{words: fmt.Sprintf("abandoned (%s): %v", reply.Line, err)}, abandoned
 	}
 	done, err := w.report(lease, name)
-	if former, isThere := homes[lease.Fragment]; done.isDone && isThere && former != lease.Target.Node {
+	if former, isThere := placed.Homes[lease.Fragment]; done.isDone && isThere && former != lease.Target.Node {
 		_ = w.nodes.Delete(former, Name{name.Stripe, name.Fragment, name.Epoch - 1}) // (what is left takes room, and is never read)
 	}
 	done.reads = reads
@@ -86,7 +88,7 @@ func workerCommand(words []string) error {
 	if err != nil {
 		return err
 	}
-	w := &worker{fmt.Sprintf("worker-%d", given.number), newBook(given.cluster), newNodes(given.cluster)}
+	w := &worker{fmt.Sprintf("worker-%d", given.number), newBook(given.cluster), newNodes(given.cluster, limitOfNodes)}
 	for {
 		isDone, err := w.turn()
 		if err != nil {
