@@ -1,7 +1,6 @@
 package main
 
 import (
-	"bufio"
 	"encoding/json"
 	"errors"
 	"fmt"
@@ -25,93 +24,96 @@ const (
 const (
 	mostPlaces   = 50 // times that a stripe is placed before it is given up
 	pauseOfPlace = 200 * time.Millisecond
+	ofReserve    = 16 // numbers of stripes that are reserved at once
 )
 
-// An Object is a line of the gateway's index.
+// An Object is where the bytes of an object are.
 type Object struct {
-	Name    string
 	Length  int
 	Stripes []int
 }
 
-// A Gateway puts and gets objects. Its index is a file to which a line is added for each object.
+// An Index is what a gateway keeps, in a file that is written anew with each object.
+type Index struct {
+	Reserved int // no number of a stripe below it is used again: what is late may still have its name
+	Objects  map[string]Object
+}
+
+// A Gateway puts and gets objects.
 type Gateway struct {
 	book   *Book
 	nodes  *Nodes
 	matrix [][]byte
+	file   string
 
-	mu      sync.Mutex
-	index   *os.File
-	objects map[string]Object
-	next    int // the number of the next stripe. None is used again, so that no older bytes have its name
+	mu    sync.Mutex
+	index Index
+	next  int // the number of the next stripe
 }
 
 func openGateway(cluster *Cluster, folder string) (*Gateway, error) {
-	g := &Gateway{book: newBook(cluster), nodes: newNodes(cluster, limitOfNodes), objects: map[string]Object{}}
-	var err error
-	if g.matrix, err = g.book.Matrix(); err != nil {
-		return nil, err
+	g := &Gateway{book: newBook(cluster), nodes: newNodes(cluster, limitOfNodes), file: filepath.Join(folder, "index")}
+	g.index.Objects = map[string]Object{}
+	text, err := os.ReadFile(g.file)
+	if err == nil {
+		err = json.Unmarshal(text, &g.index)
+	} else if errors.Is(err, os.ErrNotExist) {
+		err = os.MkdirAll(folder, 0o755)
 	}
-	if err := os.MkdirAll(folder, 0o755); err != nil {
-		return nil, err
-	}
-	g.index, err = os.OpenFile(filepath.Join(folder, "index"), os.O_RDWR|os.O_CREATE|os.O_APPEND, 0o644)
+	g.next = g.index.Reserved
 	if err != nil {
 		return nil, err
 	}
-	lines := bufio.NewScanner(g.index)
-	for lines.Scan() {
-		var object Object
-		if json.Unmarshal(lines.Bytes(), &object) == nil { // (else it is a torn line, of which nobody was told)
-			g.remember(object)
-		}
-	}
-	if err := lines.Err(); err != nil {
+	if g.matrix, err = g.book.Matrix(); err != nil {
 		return nil, err
 	}
 	return g, g.dropOthers()
 }
 
+// save keeps the index. The caller has the lock.
+func (g *Gateway) save() error {
+	text, err := json.Marshal(g.index)
+	if err == nil {
+		err = writeDurable(g.file, text)
+	}
+	return err
+}
+
+// number is a number of a stripe that was not used before.
+func (g *Gateway) number() (int, error) {
+	g.mu.Lock()
+	defer g.mu.Unlock()
+	if g.next == g.index.Reserved {
+		g.index.Reserved += ofReserve
+		if err := g.save(); err != nil {
+			g.index.Reserved -= ofReserve
+			return 0, err
+		}
+	}
+	g.next++
+	return g.next - 1, nil
+}
+
 // dropOthers drops the stripes that are in no object: a gateway before this one ended while it wrote them.
 func (g *Gateway) dropOthers() error {
-	stripes, err := g.book.Stripes()
-	if err != nil {
-		return err
-	}
-	known := map[int]bool{}
-	for _, object := range g.objects {
+	isKnown := map[int]bool{}
+	for _, object := range g.index.Objects {
 		for _, stripe := range object.Stripes {
-			known[stripe] = true
+			isKnown[stripe] = true
 		}
 	}
+	stripes, err := g.book.Stripes()
 	for _, stripe := range stripes {
-		g.use(stripe.Number)
-		if !known[stripe.Number] {
-			if _, err := g.book.Call("", fmt.Sprintf("drop %d", stripe.Number)); err != nil {
-				return err
-			}
+		if err == nil && !isKnown[stripe.Number] {
+			_, err = g.book.Call("", fmt.Sprintf("drop %d", stripe.Number))
 		}
 	}
-	return nil
-}
-
-func (g *Gateway) remember(object Object) {
-	g.objects[object.Name] = object
-	for _, stripe := range object.Stripes {
-		g.use(stripe)
-	}
-}
-
-// use notes the number of a stripe as one that was used.
-func (g *Gateway) use(stripe int) {
-	if g.next <= stripe {
-		g.next = stripe + 1
-	}
+	return err
 }
 
 // Put writes an object. It is durable on all its nodes, and in the index, when it returns.
 func (g *Gateway) Put(name string, text []byte) error {
-	object := Object{Name: name, Length: len(text)}
+	object := Object{Length: len(text)}
 	for len(text) > 0 {
 		part := make([]byte, dataOfStripe*fragmentLength) // the last one is filled up with zeros
 		text = text[copy(part, text):]
@@ -121,20 +123,10 @@ func (g *Gateway) Put(name string, text []byte) error {
 		}
 		object.Stripes = append(object.Stripes, stripe)
 	}
-	line, err := json.Marshal(object)
-	if err != nil {
-		return err
-	}
 	g.mu.Lock()
 	defer g.mu.Unlock()
-	if _, err := g.index.Write(append(append([]byte{'\n'}, line...), '\n')); err != nil { // (the first ends a torn line)
-		return err
-	}
-	if err := g.index.Sync(); err != nil {
-		return err
-	}
-	g.remember(object)
-	return nil
+	g.index.Objects[name] = object
+	return g.save()
 }
 
 // putStripe encodes a stripe, and has it placed until all of its fragments could be written.
@@ -142,10 +134,10 @@ func (g *Gateway) putStripe(part []byte) (int, error) {
 	data := cut(part, fragmentLength)
 	fragments := append(data, combine(g.matrix[dataOfStripe:], data)...)
 	for try := 0; try < mostPlaces; try++ {
-		g.mu.Lock()
-		stripe := g.next
-		g.next++
-		g.mu.Unlock()
+		stripe, err := g.number()
+		if err != nil {
+			return 0, err
+		}
 		reply, err := g.book.Call("", fmt.Sprintf("place %d", stripe))
 		switch {
 		case err != nil:
@@ -186,26 +178,26 @@ func (g *Gateway) writeAll(stripe int, homes []Seat, fragments [][]byte) bool {
 }
 
 // Get reads an object, and tells how many of its fragments had to be rebuilt.
-func (g *Gateway) Get(object Object) (text []byte, degraded int, err error) {
+func (g *Gateway) Get(object Object) (text []byte, rebuilt int, err error) {
 	for _, stripe := range object.Stripes {
-		part, rebuilt, err := g.getStripe(stripe)
+		part, missing, err := g.getStripe(stripe)
 		if err != nil {
 			return nil, 0, err
 		}
-		text, degraded = append(text, part...), degraded+rebuilt
+		text, rebuilt = append(text, part...), rebuilt+missing
 	}
-	return text[:object.Length], degraded, nil
+	return text[:object.Length], rebuilt, nil
 }
 
-func (g *Gateway) getStripe(stripe int) (part []byte, rebuilt int, err error) {
-	placed, err := g.book.Stripe(stripe)
+func (g *Gateway) getStripe(number int) (part []byte, rebuilt int, err error) {
+	stripe, err := g.book.Stripe(number)
 	if err != nil {
 		return nil, 0, err
 	}
 	for parity := dataOfStripe; parity < fragmentsOfStripe; parity++ {
-		delete(placed.Homes, parity)
+		delete(stripe.Homes, parity)
 	}
-	found, _ := g.nodes.ReadAll(stripe, placed.Homes)
+	found, _ := g.nodes.ReadAll(number, stripe.Homes)
 	var missing []int
 	for fragment := 0; fragment < dataOfStripe; fragment++ {
 		if found[fragment] == nil {
@@ -213,8 +205,8 @@ func (g *Gateway) getStripe(stripe int) (part []byte, rebuilt int, err error) {
 		}
 	}
 	for _, fragment := range missing {
-		if found[fragment], _, err = rebuild(g.book, g.nodes, stripe, fragment, missing); err != nil {
-			return nil, 0, fmt.Errorf("fragment %d of stripe %d: %w", fragment, stripe, err)
+		if found[fragment], _, err = rebuild(g.book, g.nodes, number, fragment, missing); err != nil {
+			return nil, 0, fmt.Errorf("fragment %d of stripe %d: %w", fragment, number, err)
 		}
 	}
 	for fragment := 0; fragment < dataOfStripe; fragment++ {
@@ -226,36 +218,35 @@ func (g *Gateway) getStripe(stripe int) (part []byte, rebuilt int, err error) {
 // ServeHTTP puts and gets at /objects/NAME.
 func (g *Gateway) ServeHTTP(w http.ResponseWriter, r *http.Request) {
 	name := strings.TrimPrefix(r.URL.Path, "/objects/")
+	var err error
 	switch {
 	case r.URL.Path == "/":
 	case r.Method == "PUT":
-		text, err := io.ReadAll(r.Body)
-		if err == nil {
+		var text []byte
+		if text, err = io.ReadAll(r.Body); err == nil {
 			err = g.Put(name, text)
 		}
-		if err != nil {
-			http.Error(w, err.Error(), http.StatusServiceUnavailable)
-		}
 	case r.Method == "GET":
-		g.mu.Lock()
-		object, isThere := g.objects[name]
-		g.mu.Unlock()
-		if !isThere {
-			http.NotFound(w, r)
-			return
-		}
-		text, degraded, err := g.Get(object)
-		if err != nil {
-			http.Error(w, err.Error(), http.StatusServiceUnavailable)
-			return
-		}
-		w.Header().Set("Rebuilt", strconv.Itoa(degraded))
-		if _, err := w.Write(text); err != nil {
-			fmt.Fprintln(os.Stderr, err) // (the reader is gone)
-		}
+		err = g.serveGet(w, name)
 	default:
-		http.Error(w, "this takes PUT and GET", http.StatusMethodNotAllowed)
+		err = errors.New("this takes PUT and GET")
 	}
+	answerError(w, err)
+}
+
+func (g *Gateway) serveGet(w http.ResponseWriter, name string) error {
+	g.mu.Lock()
+	object, isThere := g.index.Objects[name]
+	g.mu.Unlock()
+	if !isThere {
+		return os.ErrNotExist
+	}
+	text, rebuilt, err := g.Get(object)
+	if err == nil {
+		w.Header().Set("Rebuilt", strconv.Itoa(rebuilt))
+		_, err = w.Write(text)
+	}
+	return err
 }
 
 func gatewayCommand(words []string) error {

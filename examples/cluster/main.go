@@ -7,7 +7,6 @@ import (
 	"flag"
 	"fmt"
 	"os"
-	"sort"
 )
 
 // A Node is a machine with a disk.
@@ -70,18 +69,12 @@ func parseOptions(name string, words []string) (options, error) {
 }
 
 func main() {
-	if len(os.Args) > 1 && commands[os.Args[1]] != nil {
-		if err := commands[os.Args[1]](os.Args[2:]); err != nil {
-			fmt.Fprintf(os.Stderr, "cluster %s: %v\n", os.Args[1], err)
-			os.Exit(1)
-		}
-		return
+	if len(os.Args) < 2 || commands[os.Args[1]] == nil {
+		fmt.Fprintln(os.Stderr, "cluster: the first word has to be node, gateway, worker, monitor or scrub")
+		os.Exit(2)
 	}
-	var words []string
-	for word := range commands {
-		words = append(words, word)
+	if err := commands[os.Args[1]](os.Args[2:]); err != nil {
+		fmt.Fprintf(os.Stderr, "cluster %s: %v\n", os.Args[1], err)
+		os.Exit(1)
 	}
-	sort.Strings(words)
-	fmt.Fprintf(os.Stderr, "cluster: the first word has to be one of %v\n", words)
-	os.Exit(2)
 }

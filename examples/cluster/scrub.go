@@ -2,8 +2,8 @@ package main
 
 import "fmt"
 
-// mend replaces a damaged fragment of a node that is well, as docs/CODING.md has it: it is leased as if its node were emptied, and
-// rebuilt without it.
+// mend replaces a damaged fragment of a node that is well, as docs/CODING.md has it: it is leased as if its node were to be
+// emptied, and rebuilt without it.
 func mend(book *Book, nodes *Nodes, stripe, fragment, node int) (result, error) {
 	if err := book.Change(fmt.Sprintf("drain %d", node)); err != nil {
 		return result{}, err

@@ -78,8 +78,8 @@ func (w *worker) turn() (bool, error) {
 		return false, err
 	}
 	done, err := w.repair(lease, nil)
-	fmt.Printf("stripe %d fragment %d epoch %d %s reads %d: %s\n", lease.Stripe, lease.Fragment, lease.Epoch, lease.Repair, done.reads,
-		done.words)
+	fmt.Printf("stripe %d fragment %d epoch %d %s reads %d: %s\n", lease.Stripe, lease.Fragment, lease.Epoch, lease.Repair,
+		done.reads, done.words)
 	return done.isDone, err
 }
 

@@ -84,8 +84,8 @@ func TestARecipeThatThereIsNotIsRefusedByName(t *testing.T) {
 // The matrices of docs/RULES.md.
 func TestTheMatrixHasARowForEachFragment(t *testing.T) {
 	s := newService(t, nil)
-	s.expect("GET", "/matrix?code=narrow", "", 200, `{"code":"narrow","rows":[[1,0,0,0,0,0],[0,1,0,0,0,0],[0,0,1,0,0,0],[0,0,0,1,0,0],`+
-		`[0,0,0,0,1,0],[0,0,0,0,0,1],[1,1,1,0,0,0],[0,0,0,1,1,1],[1,2,3,16,32,48],[1,4,5,29,116,105]]}`)
+	s.expect("GET", "/matrix?code=narrow", "", 200, `{"code":"narrow","rows":[[1,0,0,0,0,0],[0,1,0,0,0,0],[0,0,1,0,0,0],`+
+		`[0,0,0,1,0,0],[0,0,0,0,1,0],[0,0,0,0,0,1],[1,1,1,0,0,0],[0,0,0,1,1,1],[1,2,3,16,32,48],[1,4,5,29,116,105]]}`)
 	_, text := s.ask("GET", "/matrix?code=wide", "")
 	if !strings.HasSuffix(text, `[1,1,1,1,1,1,0,0,0,0,0,0],[0,0,0,0,0,0,1,1,1,1,1,1],[1,2,3,4,5,6,16,32,48,64,80,96],`+
 		`[1,4,5,16,17,20,29,116,105,205,208,185]]}`+"\n") || strings.Count(text, "[") != 17 {

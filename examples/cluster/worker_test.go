@@ -1,0 +1,172 @@
+package main
+
+import (
+	"encoding/json"
+	"fmt"
+	"net/http"
+	"net/http/httptest"
+	"reflect"
+	"strings"
+	"testing"
+)
+
+// A fakeBook replies as it is told, and notes what it is asked.
+type fakeBook struct {
+	replies map[string][]string // by the first word of a command; the last one again and again
+	recipes map[string]string   // by the missing fragments of the question; one that is not there is undetermined
+	isSafe  bool
+	asked   []string
+}
+
+func (f *fakeBook) ServeHTTP(w http.ResponseWriter, r *http.Request) {
+	switch path := r.URL.Path; {
+	case strings.HasSuffix(path, "/call"):
+		var body struct{ Command, Worker, Key string }
+		if json.NewDecoder(r.Body).Decode(&body) != nil {
+			w.WriteHeader(http.StatusBadRequest)
+		}
+		f.asked = append(f.asked, body.Command)
+		replies := f.replies[strings.Fields(body.Command)[0]]
+		if len(replies) > 1 {
+			f.replies[strings.Fields(body.Command)[0]] = replies[1:]
+		}
+		fmt.Fprint(w, replies[0])
+	case strings.HasSuffix(path, "/recipe"):
+		missing := strings.Join(r.URL.Query()["missing"], " ")
+		f.asked = append(f.asked, "recipe "+missing)
+		if rows := f.recipes[missing]; rows != "" {
+			fmt.Fprintf(w, `{"rows":[%s]}`, rows)
+			return
+		}
+		w.WriteHeader(http.StatusConflict)
+		fmt.Fprint(w, `{"status":409,"error":"undetermined"}`)
+	case strings.HasSuffix(path, "/may-lose"):
+		fmt.Fprintf(w, `{"safe":%v}`, f.isSafe)
+	default:
+		fmt.Fprint(w, `{"rows":[{"stripe":1,"home_0":"7:0","home_1":"7:1","home_2":"7:2","home_3":"7:3"}]}`)
+	}
+}
+
+const (
+	ended   = `{"reply":"ended","kind":"ended"}`
+	changed = `{"reply":"changed","kind":"changed"}`
+)
+
+func refused(number int) string {
+	return fmt.Sprintf(`{"reply":"refused %d","kind":"refused","refusal":%d}`, number, number)
+}
+
+// newTest has node 7 with the fragments 0, 1 and 2 of stripe 1, node 8 as a target, and node 9, which does not answer.
+func newTest(t *testing.T, book *fakeBook) (*Book, *Nodes) {
+	t.Helper()
+	cluster := &Cluster{Book: "p0", Nodes: []Node{{9, "127.0.0.1:1"}}}
+	for _, number := range []int{7, 8} {
+		server := httptest.NewServer(open(t, t.TempDir()))
+		t.Cleanup(server.Close)
+		cluster.Nodes = append(cluster.Nodes, Node{number, strings.TrimPrefix(server.URL, "http://")})
+	}
+	server := httptest.NewServer(book)
+	t.Cleanup(server.Close)
+	cluster.Servers = []string{strings.TrimPrefix(server.URL, "http://")}
+	nodes := newNodes(cluster, limitOfNodes)
+	for fragment := 0; fragment < 3; fragment++ {
+		if err := nodes.Write(7, Name{1, fragment, 0}, []byte{1 << fragment}); err != nil {
+			t.Fatal(err)
+		}
+	}
+	return newBook(cluster), nodes
+}
+
+func source(fragment, coefficient int) string {
+	return fmt.Sprintf(`{"fragment":%d,"coefficient":%d,"home":"7:%d"}`, fragment, coefficient, fragment)
+}
+
+func TestAWorkerReportsWhatItWrote(t *testing.T) {
+	two := source(0, 1) + "," + source(1, 1) // the sum of 1 and 2
+	for _, it := range []struct {
+		name    string
+		target  int
+		done    []string
+		recipes map[string]string
+		asked   []string
+		isDone  bool
+		want    string // what is on the target afterwards
+	}{
+		{"well", 8, []string{ended}, map[string]string{"": two}, []string{"recipe ", "done 1 3 2"}, true, "\x03"},
+		{"a source is not there", 8, []string{ended}, map[string]string{"": two + "," + source(5, 1), "5": two},
+			[]string{"recipe ", "recipe 5", "done 1 3 2"}, true, "\x03"},
+		{"two times 2", 8, []string{ended}, map[string]string{"": source(1, 2)}, []string{"recipe ", "done 1 3 2"}, true, "\x04"},
+		{"the lease has ended", 8, []string{refused(113)}, map[string]string{"": two}, []string{"recipe ", "done 1 3 2"}, false, ""},
+		{"another worker has it", 8, []string{refused(notHolder)}, map[string]string{"": two}, []string{"recipe ", "done 1 3 2"}, false,
+			"\x03"},
+		{"the target is offline for a while", 8, []string{refused(targetOffline), ended}, map[string]string{"": two},
+			[]string{"recipe ", "done 1 3 2", "done 1 3 2"}, true, "\x03"},
+		{"undetermined", 8, nil, nil, []string{"recipe "}, false, ""},
+		{"the target does not answer", 9, nil, map[string]string{"": two}, []string{"recipe ", "abandon 1 3 2"}, false, ""},
+	} {
+		fake := &fakeBook{replies: map[string][]string{"done": it.done, "abandon": {ended}}, recipes: it.recipes}
+		book, nodes := newTest(t, fake)
+		w := worker{"w", book, nodes}
+		done, err := w.repair(Reply{Stripe: 1, Fragment: 3, Target: Seat{Node: it.target}, Epoch: 2}, nil)
+		text, _ := nodes.Read(8, 1, 3)
+		if !strings.HasPrefix(string(text), it.want) || it.want == "" && len(text) == 1 || err != nil || done.isDone != it.isDone ||
+			!reflect.DeepEqual(fake.asked, it.asked) {
+			t.Errorf("%s: %q is there, %+v %v, asked %q", it.name, text, done, err, fake.asked)
+		}
+	}
+}
+
+func TestALateWorkerLeavesWhatIsNewer(t *testing.T) {
+	fake := &fakeBook{recipes: map[string]string{"": source(0, 1)}}
+	book, nodes := newTest(t, fake)
+	if err := nodes.Write(8, Name{1, 3, 5}, []byte("newer")); err != nil {
+		t.Fatal(err)
+	}
+	done, err := (&worker{"w", book, nodes}).repair(Reply{Stripe: 1, Fragment: 3, Target: Seat{Node: 8}, Epoch: 4}, nil)
+	if text, _ := nodes.Read(8, 1, 3); string(text) != "newer" || done.isDone || err != nil || len(fake.asked) != 1 {
+		t.Errorf("%q %+v %v %q", text, done, err, fake.asked)
+	}
+}
+
+func TestAMonitorWaitsBeforeItTells(t *testing.T) {
+	for _, it := range []struct {
+		row     NodeRow
+		answers int
+		isSafe  bool
+		want    []string
+	}{
+		{NodeRow{Mode: "active"}, 1, true, nil},
+		{NodeRow{Mode: "active"}, 1 - missesToDown, true, nil},
+		{NodeRow{Mode: "active"}, -missesToDown, true, []string{"down 7"}},
+		{NodeRow{Mode: "draining"}, -missesToDown, true, []string{"down 7"}},
+		{NodeRow{Mode: "active", Upgrading: true}, -missesToFail, true, nil},
+		{NodeRow{Mode: "active", Down: true}, 1 - missesToFail, true, nil},
+		{NodeRow{Mode: "active", Down: true}, -missesToFail, true, []string{"fail 7"}},
+		{NodeRow{Mode: "active", Down: true}, -missesToFail, false, nil},
+		{NodeRow{Mode: "active", Down: true}, answersToUp - 1, true, nil},
+		{NodeRow{Mode: "active", Down: true}, answersToUp, true, []string{"up 7"}},
+		{NodeRow{Mode: "gone"}, -missesToFail, true, nil},
+		{NodeRow{Mode: "gone"}, answersToUp, true, []string{"join 7"}},
+	} {
+		fake := &fakeBook{replies: map[string][]string{"down": {changed}, "up": {changed}, "fail": {changed}, "join": {changed}}}
+		fake.isSafe = it.isSafe
+		book, nodes := newTest(t, fake)
+		it.row.Node = 7
+		m := monitor{book, nodes, map[int]int{}}
+		if err := m.decide(it.row, it.answers); err != nil || !reflect.DeepEqual(fake.asked, it.want) {
+			t.Errorf("%+v %d: %q %v", it.row, it.answers, fake.asked, err)
+		}
+		if _, err := nodes.Read(7, 1, 0); (err != nil) != (it.want != nil && it.want[0] == "join 7") {
+			t.Errorf("%+v %d: what is on the node: %v", it.row, it.answers, err)
+		}
+	}
+}
+
+func TestAMonitorCountsInARow(t *testing.T) {
+	m := monitor{answers: map[int]int{}}
+	for i, want := range []int{1, 2, -1, -2, 1, -1} {
+		if m.count(7, []bool{true, true, false, false, true, false}[i]); m.answers[7] != want {
+			t.Errorf("after %d: %d", i+1, m.answers[7])
+		}
+	}
+}
