@@ -58,7 +58,7 @@ func openGateway(cluster *Cluster, folder string) (*Gateway, error) {
 	if err == nil {
 		err = json.Unmarshal(text, &g.index)
 	} else if errors.Is(err, os.ErrNotExist) {
-		err = os.MkdirAll(folder, 0o755)
+		err = makeFolder(folder)
 	}
 	g.next = g.index.Reserved
 	if err != nil {
@@ -249,11 +249,7 @@ func (g *Gateway) serveGet(w http.ResponseWriter, name string) error {
 	return err
 }
 
-func gatewayCommand(words []string) error {
-	given, err := parseOptions("gateway", words)
-	if err != nil {
-		return err
-	}
+func runGateway(given options) error {
 	gateway, err := openGateway(given.cluster, given.folder)
 	if err != nil {
 		return err

@@ -44,36 +44,39 @@ func (c *Cluster) node(number int) (Node, error) {
 	return Node{}, fmt.Errorf("there is no node %d", number)
 }
 
-// commands are the words behind the program's name.
-var commands = map[string]func(words []string) error{
-	"node": nodeCommand, "gateway": gatewayCommand, "worker": workerCommand, "monitor": monitorCommand, "scrub": scrubCommand,
-}
-
-// options are those of a process of the cluster.
+// The options of a part of the cluster.
 type options struct {
 	cluster *Cluster
 	folder  string
 	number  int
 }
 
-func parseOptions(name string, words []string) (options, error) {
-	set := flag.NewFlagSet(name, flag.ContinueOnError)
+// parts are what the first word names.
+var parts = map[string]func(options) error{
+	"node": runNode, "gateway": runGateway, "worker": runWorker, "monitor": runMonitor, "scrub": runScrub,
+}
+
+func run(part func(options) error, words []string) error {
+	set := flag.NewFlagSet("cluster", flag.ExitOnError)
 	file := set.String("cluster", "cluster.json", "the file that describes the cluster")
-	folder := set.String("folder", "", "the folder of this process")
-	number := set.Int("number", 0, "the number of this process")
+	folder := set.String("folder", "", "the folder of a node or of the gateway")
+	number := set.Int("number", 0, "the number of a node or of a worker")
 	if err := set.Parse(words); err != nil {
-		return options{}, err
+		return err
 	}
 	cluster, err := readCluster(*file)
-	return options{cluster, *folder, *number}, err
+	if err != nil {
+		return err
+	}
+	return part(options{cluster, *folder, *number})
 }
 
 func main() {
-	if len(os.Args) < 2 || commands[os.Args[1]] == nil {
+	if len(os.Args) < 2 || parts[os.Args[1]] == nil {
 		fmt.Fprintln(os.Stderr, "cluster: the first word has to be node, gateway, worker, monitor or scrub")
 		os.Exit(2)
 	}
-	if err := commands[os.Args[1]](os.Args[2:]); err != nil {
+	if err := run(parts[os.Args[1]], os.Args[2:]); err != nil {
 		fmt.Fprintf(os.Stderr, "cluster %s: %v\n", os.Args[1], err)
 		os.Exit(1)
 	}

@@ -93,11 +93,7 @@ func (m *monitor) tell(word string, node int) error {
 	return m.book.Change(fmt.Sprintf("%s %d", word, node))
 }
 
-func monitorCommand(words []string) error {
-	given, err := parseOptions("monitor", words)
-	if err != nil {
-		return err
-	}
+func runMonitor(given options) error {
 	m := &monitor{newBook(given.cluster), newNodes(given.cluster, limitOfMonitor), map[int]int{}}
 	for {
 		if err := m.round(); err != nil {

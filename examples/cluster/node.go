@@ -48,7 +48,7 @@ type Store struct {
 }
 
 func openStore(folder string) (*Store, error) {
-	if err := os.MkdirAll(folder, 0o755); err != nil {
+	if err := makeFolder(folder); err != nil {
 		return nil, err
 	}
 	files, err := os.ReadDir(folder)
@@ -117,10 +117,23 @@ func writeDurable(path string, parts ...[]byte) (err error) {
 	if err == nil {
 		err = os.Rename(file.Name(), path)
 	}
-	if err != nil {
+	if err == nil {
+		err = syncFolder(filepath.Dir(path))
+	}
+	return err
+}
+
+// makeFolder makes a folder, durable, if it is not there.
+func makeFolder(path string) error {
+	if err := os.MkdirAll(path, 0o755); err != nil {
 		return err
 	}
-	folder, err := os.Open(filepath.Dir(path))
+	return syncFolder(filepath.Dir(path))
+}
+
+// syncFolder makes the names in a folder durable.
+func syncFolder(path string) error {
+	folder, err := os.Open(path)
 	if err != nil {
 		return err
 	}
@@ -241,11 +254,7 @@ func (s *Store) serveFragment(w http.ResponseWriter, r *http.Request, word strin
 	return s.Write(name, text)
 }
 
-func nodeCommand(words []string) error {
-	given, err := parseOptions("node", words)
-	if err != nil {
-		return err
-	}
+func runNode(given options) error {
 	node, err := given.cluster.node(given.number)
 	if err != nil {
 		return err

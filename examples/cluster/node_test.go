@@ -6,6 +6,7 @@ import (
 	"net/http/httptest"
 	"os"
 	"path/filepath"
+	"reflect"
 	"strings"
 	"testing"
 )
@@ -18,6 +19,9 @@ func open(t *testing.T, folder string) *Store {
 	}
 	return store
 }
+
+// full is a fragment that has the same byte everywhere.
+func full(one byte) []byte { return bytes.Repeat([]byte{one}, fragmentLength) }
 
 func TestNamesHoldStripeFragmentAndEpoch(t *testing.T) {
 	name := Name{17, 3, 2}
@@ -94,9 +98,12 @@ func TestADamagedFragmentIsNeitherWholeNorRead(t *testing.T) {
 	defer server.Close()
 	nodes := newNodes(&Cluster{Nodes: []Node{{7, strings.TrimPrefix(server.URL, "http://")}}}, limitOfNodes)
 	for fragment := 0; fragment < 3; fragment++ {
-		if err := nodes.Write(7, Name{1, fragment, 2}, []byte{1, 2, byte(fragment)}); err != nil {
+		if err := nodes.Write(7, Name{1, fragment, 2}, full(byte(fragment))); err != nil {
 			t.Fatal(err)
 		}
+	}
+	if err := nodes.Write(7, Name{2, 0, 0}, []byte("short")); err != nil {
+		t.Fatal(err)
 	}
 	if err := nodes.Write(7, Name{1, 0, 1}, []byte("late")); err != errFenced {
 		t.Error(err)
@@ -111,10 +118,19 @@ func TestADamagedFragmentIsNeitherWholeNorRead(t *testing.T) {
 		t.Fatal(err)
 	}
 	found, failed := nodes.ReadAll(1, map[int]int{0: 7, 1: 7, 2: 7, 3: 7, 4: 8})
-	if len(found) != 2 || !bytes.Equal(found[2], []byte{1, 2, 2}) || len(failed) != 3 || failed[0] != 1 {
-		t.Error(found, failed)
+	if len(found) != 2 || !bytes.Equal(found[2], full(2)) || !reflect.DeepEqual(failed, []int{1, 3, 4}) {
+		t.Error(len(found), failed)
 	}
-	if whole, err := nodes.Whole(7); err != nil || len(whole) != 2 || whole[0].Fragment == 1 || whole[1].Fragment == 1 {
+	if _, err := nodes.Read(7, 2, 0); err == nil {
+		t.Error("a short fragment is read")
+	}
+	whole, err := nodes.Whole(7)
+	for _, name := range whole {
+		if name == (Name{1, 1, 2}) {
+			t.Error("it is whole")
+		}
+	}
+	if err != nil || len(whole) != 3 {
 		t.Error(whole, err)
 	}
 	if err := nodes.Empty(7); err != nil {

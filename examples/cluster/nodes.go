@@ -88,14 +88,17 @@ func (n *Nodes) Whole(node int) (names []Name, err error) {
 	return names, err
 }
 
-// Read reads a fragment, and compares its checksum.
+// Read reads a fragment, and compares its length and its checksum.
 func (n *Nodes) Read(node, stripe, fragment int) ([]byte, error) {
 	text, head, err := n.ask(node, "GET", "/fragments/"+Name{stripe, fragment, 0}.place(), nil)
-	sum := strconv.FormatUint(uint64(crc32.ChecksumIEEE(text)), 16)
-	if err == nil && comparesChecksums && head.Get("Checksum") != sum {
-		err = fmt.Errorf("fragment %d.%d on node %d is damaged", stripe, fragment, node)
+	if err != nil {
+		return nil, err
 	}
-	return text, err
+	isRight := head.Get("Checksum") == strconv.FormatUint(uint64(crc32.ChecksumIEEE(text)), 16)
+	if len(text) != fragmentLength || !isRight && comparesChecksums {
+		return nil, fmt.Errorf("fragment %d.%d on node %d is damaged", stripe, fragment, node)
+	}
+	return text, nil
 }
 
 // ReadAll reads fragments of a stripe at their homes, all at once. It returns those that could be read, and the numbers of the

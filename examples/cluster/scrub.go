@@ -35,12 +35,8 @@ func wholeOf(nodes *Nodes) map[int]map[string]bool {
 	return whole
 }
 
-// scrubCommand has every node compare the checksums of all that it has, and mends each fragment that is damaged or not there.
-func scrubCommand(words []string) error {
-	given, err := parseOptions("scrub", words)
-	if err != nil {
-		return err
-	}
+// runScrub has every node compare the checksums of all that it has, and mends each fragment that is damaged or not there.
+func runScrub(given options) error {
 	book, nodes := newBook(given.cluster), newNodes(given.cluster, limitOfNodes)
 	stripes, err := book.Stripes()
 	if err != nil {

@@ -83,11 +83,7 @@ func (w *worker) turn() (bool, error) {
 	return done.isDone, err
 }
 
-func workerCommand(words []string) error {
-	given, err := parseOptions("worker", words)
-	if err != nil {
-		return err
-	}
+func runWorker(given options) error {
 	w := &worker{fmt.Sprintf("worker-%d", given.number), newBook(given.cluster), newNodes(given.cluster, limitOfNodes)}
 	for {
 		isDone, err := w.turn()

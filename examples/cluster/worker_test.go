@@ -1,6 +1,7 @@
 package main
 
 import (
+	"bytes"
 	"encoding/json"
 	"fmt"
 	"net/http"
@@ -70,7 +71,7 @@ func newTest(t *testing.T, book *fakeBook) (*Book, *Nodes) {
 	cluster.Servers = []string{strings.TrimPrefix(server.URL, "http://")}
 	nodes := newNodes(cluster, limitOfNodes)
 	for fragment := 0; fragment < 3; fragment++ {
-		if err := nodes.Write(7, Name{1, fragment, 0}, []byte{1 << fragment}); err != nil {
+		if err := nodes.Write(7, Name{1, fragment, 0}, full(1<<fragment)); err != nil {
 			t.Fatal(err)
 		}
 	}
@@ -90,28 +91,28 @@ func TestAWorkerReportsWhatItWrote(t *testing.T) {
 		recipes map[string]string
 		asked   []string
 		isDone  bool
-		want    string // what is on the target afterwards
+		want    byte // what is on the target afterwards; 0: nothing
 	}{
-		{"well", 8, []string{ended}, map[string]string{"": two}, []string{"recipe ", "done 1 3 2"}, true, "\x03"},
+		{"well", 8, []string{ended}, map[string]string{"": two}, []string{"recipe ", "done 1 3 2"}, true, 3},
 		{"a source is not there", 8, []string{ended}, map[string]string{"": two + "," + source(5, 1), "5": two},
-			[]string{"recipe ", "recipe 5", "done 1 3 2"}, true, "\x03"},
-		{"two times 2", 8, []string{ended}, map[string]string{"": source(1, 2)}, []string{"recipe ", "done 1 3 2"}, true, "\x04"},
-		{"the lease has ended", 8, []string{refused(113)}, map[string]string{"": two}, []string{"recipe ", "done 1 3 2"}, false, ""},
+			[]string{"recipe ", "recipe 5", "done 1 3 2"}, true, 3},
+		{"two times 2", 8, []string{ended}, map[string]string{"": source(1, 2)}, []string{"recipe ", "done 1 3 2"}, true, 4},
+		{"the lease has ended", 8, []string{refused(113)}, map[string]string{"": two}, []string{"recipe ", "done 1 3 2"}, false, 0},
 		{"another worker has it", 8, []string{refused(notHolder)}, map[string]string{"": two}, []string{"recipe ", "done 1 3 2"}, false,
-			"\x03"},
+			3},
 		{"the target is offline for a while", 8, []string{refused(targetOffline), ended}, map[string]string{"": two},
-			[]string{"recipe ", "done 1 3 2", "done 1 3 2"}, true, "\x03"},
-		{"undetermined", 8, nil, nil, []string{"recipe "}, false, ""},
-		{"the target does not answer", 9, nil, map[string]string{"": two}, []string{"recipe ", "abandon 1 3 2"}, false, ""},
+			[]string{"recipe ", "done 1 3 2", "done 1 3 2"}, true, 3},
+		{"undetermined", 8, nil, nil, []string{"recipe "}, false, 0},
+		{"the target does not answer", 9, nil, map[string]string{"": two}, []string{"recipe ", "abandon 1 3 2"}, false, 0},
 	} {
 		fake := &fakeBook{replies: map[string][]string{"done": it.done, "abandon": {ended}}, recipes: it.recipes}
 		book, nodes := newTest(t, fake)
 		w := worker{"w", book, nodes}
 		done, err := w.repair(Reply{Stripe: 1, Fragment: 3, Target: Seat{Node: it.target}, Epoch: 2}, nil)
 		text, _ := nodes.Read(8, 1, 3)
-		if !strings.HasPrefix(string(text), it.want) || it.want == "" && len(text) == 1 || err != nil || done.isDone != it.isDone ||
-			!reflect.DeepEqual(fake.asked, it.asked) {
-			t.Errorf("%s: %q is there, %+v %v, asked %q", it.name, text, done, err, fake.asked)
+		isRight := it.want == 0 && text == nil || it.want != 0 && bytes.Equal(text, full(it.want))
+		if !isRight || err != nil || done.isDone != it.isDone || !reflect.DeepEqual(fake.asked, it.asked) {
+			t.Errorf("%s: %.3v is there, %+v %v, asked %q", it.name, text, done, err, fake.asked)
 		}
 	}
 }
@@ -119,12 +120,12 @@ func TestAWorkerReportsWhatItWrote(t *testing.T) {
 func TestALateWorkerLeavesWhatIsNewer(t *testing.T) {
 	fake := &fakeBook{recipes: map[string]string{"": source(0, 1)}}
 	book, nodes := newTest(t, fake)
-	if err := nodes.Write(8, Name{1, 3, 5}, []byte("newer")); err != nil {
+	if err := nodes.Write(8, Name{1, 3, 5}, full(9)); err != nil {
 		t.Fatal(err)
 	}
 	done, err := (&worker{"w", book, nodes}).repair(Reply{Stripe: 1, Fragment: 3, Target: Seat{Node: 8}, Epoch: 4}, nil)
-	if text, _ := nodes.Read(8, 1, 3); string(text) != "newer" || done.isDone || err != nil || len(fake.asked) != 1 {
-		t.Errorf("%q %+v %v %q", text, done, err, fake.asked)
+	if text, _ := nodes.Read(8, 1, 3); !bytes.Equal(text, full(9)) || done.isDone || err != nil || len(fake.asked) != 1 {
+		t.Errorf("%.3v %+v %v %q", text, done, err, fake.asked)
 	}
 }
 
