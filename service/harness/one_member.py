@@ -49,7 +49,7 @@ def recipe_of(asker, member, book, query):
 def compare_recipe(count, asker, member, book, store, key, further):
     """One recipe: that of a live lease, or with further missing fragments that of any."""
     stripe, fragment = key
-    code, missing = store.stripes[stripe], store.missing(stripe) | rules.set_of(further)
+    code, missing = store.stripes[stripe], store.missing(stripe) | rules.set_of({*further})
     query = "".join(f"&missing={it}" for it in further)
     status, sources, homes = recipe_of(asker, member, book, f"stripe={stripe}&fragment={fragment}{query}")
     if not coded.is_known(code, missing, fragment):
