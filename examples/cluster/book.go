@@ -65,16 +65,20 @@ type Book struct {
 	servers []string
 	path    string
 	client  http.Client
-	limit   time.Duration // how long it asks again
 }
 
+const (
+	limitOfMember = 5 * time.Second  // in which a member has to answer
+	limitOfBook   = 30 * time.Second // in which members are asked again
+)
+
 func newBook(cluster *Cluster) *Book {
-	return &Book{cluster.Servers, "/books/" + cluster.Book, http.Client{Timeout: 5 * time.Second}, 30 * time.Second}
+	return &Book{cluster.Servers, "/books/" + cluster.Book, http.Client{Timeout: limitOfMember}}
 }
 
 // ask asks one member after the other until one knows the answer.
 func (b *Book) ask(method, path string, body []byte, answer interface{}) error {
-	end := time.Now().Add(b.limit)
+	end := time.Now().Add(limitOfBook)
 	for turn := 0; ; turn++ {
 		err := b.askOne(b.servers[turn%len(b.servers)], method, path, body, answer)
 		var told *failure
@@ -91,7 +95,7 @@ func (b *Book) askOne(server, method, path string, body []byte, answer interface
 	if err != nil {
 		return err
 	}
-	if bytes.HasPrefix(body, []byte("{")) {
+	if body != nil {
 		request.Header.Set("Content-Type", "application/json")
 	}
 	told, err := b.client.Do(request)

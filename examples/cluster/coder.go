@@ -30,13 +30,13 @@ func combine(rows [][]byte, sources [][]byte) [][]byte {
 	return cut(to, length)
 }
 
-func first(text []byte) *C.uchar { return (*C.uchar)(&text[0]) }
+func first(data []byte) *C.uchar { return (*C.uchar)(&data[0]) }
 
 // cut cuts bytes into pieces of one length.
-func cut(text []byte, length int) [][]byte {
+func cut(data []byte, length int) [][]byte {
 	var pieces [][]byte
-	for ; length > 0 && len(text) > 0; text = text[length:] {
-		pieces = append(pieces, text[:length])
+	for ; length > 0 && len(data) > 0; data = data[length:] {
+		pieces = append(pieces, data[:length])
 	}
 	return pieces
 }

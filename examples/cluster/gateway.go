@@ -112,11 +112,11 @@ func (g *Gateway) dropOthers() error {
 }
 
 // Put writes an object. It is durable on all its nodes, and in the index, when it returns.
-func (g *Gateway) Put(name string, text []byte) error {
-	object := Object{Length: len(text)}
-	for len(text) > 0 {
+func (g *Gateway) Put(name string, content []byte) error {
+	object := Object{Length: len(content)}
+	for len(content) > 0 {
 		part := make([]byte, dataOfStripe*fragmentLength) // the last one is filled up with zeros
-		text = text[copy(part, text):]
+		content = content[copy(part, content):]
 		stripe, err := g.putStripe(part)
 		if err != nil {
 			return err
@@ -178,15 +178,15 @@ func (g *Gateway) writeAll(stripe int, homes []Seat, fragments [][]byte) bool {
 }
 
 // Get reads an object, and tells how many of its fragments had to be rebuilt.
-func (g *Gateway) Get(object Object) (text []byte, rebuilt int, err error) {
+func (g *Gateway) Get(object Object) (content []byte, rebuilt int, err error) {
 	for _, stripe := range object.Stripes {
 		part, missing, err := g.getStripe(stripe)
 		if err != nil {
 			return nil, 0, err
 		}
-		text, rebuilt = append(text, part...), rebuilt+missing
+		content, rebuilt = append(content, part...), rebuilt+missing
 	}
-	return text[:object.Length], rebuilt, nil
+	return content[:object.Length], rebuilt, nil
 }
 
 func (g *Gateway) getStripe(number int) (part []byte, rebuilt int, err error) {
@@ -222,9 +222,9 @@ func (g *Gateway) ServeHTTP(w http.ResponseWriter, r *http.Request) {
 	switch {
 	case r.URL.Path == "/":
 	case r.Method == "PUT":
-		var text []byte
-		if text, err = io.ReadAll(r.Body); err == nil {
-			err = g.Put(name, text)
+		var content []byte
+		if content, err = io.ReadAll(r.Body); err == nil {
+			err = g.Put(name, content)
 		}
 	case r.Method == "GET":
 		err = g.serveGet(w, name)
@@ -241,10 +241,10 @@ func (g *Gateway) serveGet(w http.ResponseWriter, name string) error {
 	if !isThere {
 		return os.ErrNotExist
 	}
-	text, rebuilt, err := g.Get(object)
+	content, rebuilt, err := g.Get(object)
 	if err == nil {
 		w.Header().Set("Rebuilt", strconv.Itoa(rebuilt))
-		_, err = w.Write(text)
+		_, err = w.Write(content)
 	}
 	return err
 }

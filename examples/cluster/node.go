@@ -23,9 +23,9 @@ type Name struct {
 
 func (n Name) String() string { return fmt.Sprintf("%d.%d.epoch%d", n.Stripe, n.Fragment, n.Epoch) }
 
-func parseName(text string) (name Name, err error) {
-	if _, err = fmt.Sscanf(text, "%d.%d.epoch%d", &name.Stripe, &name.Fragment, &name.Epoch); err == nil && name.String() != text {
-		err = fmt.Errorf("%q is no name of a fragment", text)
+func parseName(word string) (name Name, err error) {
+	if _, err = fmt.Sscanf(word, "%d.%d.epoch%d", &name.Stripe, &name.Fragment, &name.Epoch); err == nil && name.String() != word {
+		err = fmt.Errorf("%q is no name of a fragment", word)
 	}
 	return name, err
 }
@@ -78,15 +78,15 @@ func openStore(folder string) (*Store, error) {
 func (s *Store) file(name Name) string { return filepath.Join(s.folder, name.String()) }
 
 // Write keeps the bytes of a fragment, durable when it returns. It refuses an epoch that is older than what is there.
-func (s *Store) Write(name Name, text []byte) error {
+func (s *Store) Write(name Name, data []byte) error {
 	s.mu.Lock()
 	defer s.mu.Unlock()
 	older, isThere := s.newest[name.place()]
 	if isThere && name.Epoch < older.Epoch && hasFence {
 		return errFenced
 	}
-	head := binary.BigEndian.AppendUint32(nil, crc32.ChecksumIEEE(text))
-	if err := writeDurable(s.file(name), head, text); err != nil {
+	head := binary.BigEndian.AppendUint32(nil, crc32.ChecksumIEEE(data))
+	if err := writeDurable(s.file(name), head, data); err != nil {
 		return err
 	}
 	s.newest[name.place()] = name
@@ -142,17 +142,17 @@ func syncFolder(path string) error {
 }
 
 // Read gives the newest bytes of a fragment with the checksum that was written with them. The reader compares them.
-func (s *Store) Read(place string) (text []byte, sum uint32, err error) {
+func (s *Store) Read(place string) (data []byte, sum uint32, err error) {
 	s.mu.Lock()
 	defer s.mu.Unlock()
 	name, isThere := s.newest[place]
 	if !isThere {
 		return nil, 0, os.ErrNotExist
 	}
-	if text, err = os.ReadFile(s.file(name)); err != nil || len(text) < 4 {
+	if data, err = os.ReadFile(s.file(name)); err != nil || len(data) < 4 {
 		return nil, 0, err
 	}
-	return text[4:], binary.BigEndian.Uint32(text), nil
+	return data[4:], binary.BigEndian.Uint32(data), nil
 }
 
 // Delete deletes the fragment, if what is there is not newer than the epoch of the name.
@@ -192,7 +192,7 @@ func (s *Store) Empty() error {
 func (s *Store) Whole() []Name {
 	whole := []Name{}
 	for _, name := range s.names() {
-		if text, sum, err := s.Read(name.place()); err == nil && crc32.ChecksumIEEE(text) == sum {
+		if data, sum, err := s.Read(name.place()); err == nil && crc32.ChecksumIEEE(data) == sum {
 			whole = append(whole, name)
 		}
 	}
@@ -230,10 +230,10 @@ func answerError(w http.ResponseWriter, err error) {
 
 func (s *Store) serveFragment(w http.ResponseWriter, r *http.Request, word string) error {
 	if r.Method == "GET" {
-		text, sum, err := s.Read(word)
+		data, sum, err := s.Read(word)
 		if err == nil {
 			w.Header().Set("Checksum", strconv.FormatUint(uint64(sum), 16))
-			_, err = w.Write(text)
+			_, err = w.Write(data)
 		}
 		return err
 	}
@@ -244,14 +244,14 @@ func (s *Store) serveFragment(w http.ResponseWriter, r *http.Request, word strin
 	if r.Method == "DELETE" {
 		return s.Delete(name)
 	}
-	text, err := io.ReadAll(r.Body)
+	data, err := io.ReadAll(r.Body)
 	if err != nil {
 		return err
 	}
-	if r.Method != "PUT" || r.Header.Get("Checksum") != strconv.FormatUint(uint64(crc32.ChecksumIEEE(text)), 16) {
+	if r.Method != "PUT" || r.Header.Get("Checksum") != strconv.FormatUint(uint64(crc32.ChecksumIEEE(data)), 16) {
 		return errors.New("this takes GET, DELETE, and PUT with the checksum of the bytes")
 	}
-	return s.Write(name, text)
+	return s.Write(name, data)
 }
 
 func runNode(given options) error {

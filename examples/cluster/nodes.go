@@ -29,7 +29,7 @@ func newNodes(cluster *Cluster, limit time.Duration) *Nodes {
 // comparesChecksums is true. (A faulty program, which only tests make, takes whatever bytes a node gives)
 var comparesChecksums = true
 
-func (n *Nodes) ask(number int, method, path string, body []byte) (text []byte, head http.Header, err error) {
+func (n *Nodes) ask(number int, method, path string, body []byte) (data []byte, head http.Header, err error) {
 	node, err := n.cluster.node(number)
 	if err != nil {
 		return nil, nil, err
@@ -46,18 +46,18 @@ func (n *Nodes) ask(number int, method, path string, body []byte) (text []byte, 
 		return nil, nil, err
 	}
 	defer answer.Body.Close()
-	text, err = io.ReadAll(answer.Body)
+	data, err = io.ReadAll(answer.Body)
 	if err == nil && answer.StatusCode == http.StatusConflict {
 		err = errFenced
 	} else if err == nil && answer.StatusCode != http.StatusOK {
-		err = fmt.Errorf("node %d answers %d: %s", number, answer.StatusCode, bytes.TrimSpace(text))
+		err = fmt.Errorf("node %d answers %d: %s", number, answer.StatusCode, bytes.TrimSpace(data))
 	}
-	return text, answer.Header, err
+	return data, answer.Header, err
 }
 
 // Write writes a fragment, durable when it returns. errFenced: a newer epoch is there.
-func (n *Nodes) Write(node int, name Name, text []byte) error {
-	_, _, err := n.ask(node, "PUT", "/fragments/"+name.String(), text)
+func (n *Nodes) Write(node int, name Name, data []byte) error {
+	_, _, err := n.ask(node, "PUT", "/fragments/"+name.String(), data)
 	return err
 }
 
@@ -81,24 +81,24 @@ func (n *Nodes) Answers(node int) bool {
 
 // Whole has a node read all its fragments, and gives the names of those whose checksum is right.
 func (n *Nodes) Whole(node int) (names []Name, err error) {
-	text, _, err := n.ask(node, "GET", "/fragments", nil)
+	data, _, err := n.ask(node, "GET", "/fragments", nil)
 	if err == nil {
-		err = json.Unmarshal(text, &names)
+		err = json.Unmarshal(data, &names)
 	}
 	return names, err
 }
 
 // Read reads a fragment, and compares its length and its checksum.
 func (n *Nodes) Read(node, stripe, fragment int) ([]byte, error) {
-	text, head, err := n.ask(node, "GET", "/fragments/"+Name{stripe, fragment, 0}.place(), nil)
+	data, head, err := n.ask(node, "GET", "/fragments/"+Name{stripe, fragment, 0}.place(), nil)
 	if err != nil {
 		return nil, err
 	}
-	isRight := head.Get("Checksum") == strconv.FormatUint(uint64(crc32.ChecksumIEEE(text)), 16)
-	if len(text) != fragmentLength || !isRight && comparesChecksums {
+	isRight := head.Get("Checksum") == strconv.FormatUint(uint64(crc32.ChecksumIEEE(data)), 16)
+	if len(data) != fragmentLength || !isRight && comparesChecksums {
 		return nil, fmt.Errorf("fragment %d.%d on node %d is damaged", stripe, fragment, node)
 	}
-	return text, nil
+	return data, nil
 }
 
 // ReadAll reads fragments of a stripe at their homes, all at once. It returns those that could be read, and the numbers of the
@@ -111,11 +111,11 @@ func (n *Nodes) ReadAll(stripe int, homes map[int]int) (map[int][]byte, []int) {
 		wait.Add(1)
 		go func(fragment, node int) {
 			defer wait.Done()
-			text, err := n.Read(node, stripe, fragment)
+			data, err := n.Read(node, stripe, fragment)
 			mu.Lock()
 			defer mu.Unlock()
 			if err == nil {
-				found[fragment] = text
+				found[fragment] = data
 			} else {
 				failed = append(failed, fragment)
 			}

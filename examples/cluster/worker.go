@@ -31,9 +31,9 @@ func (w *worker) repair(lease Reply, missing []int) (result, error) {
 	if err != nil {
 		return result{}, err
 	}
-	text, reads, err := rebuild(w.book, w.nodes, lease.Stripe, lease.Fragment, missing)
+	data, reads, err := rebuild(w.book, w.nodes, lease.Stripe, lease.Fragment, missing)
 	if err == nil {
-		err = w.nodes.Write(lease.Target.Node, name, text)
+		err = w.nodes.Write(lease.Target.Node, name, data)
 	}
 	switch {
 	case err == errFenced: // a later lease was granted, and its worker has written
