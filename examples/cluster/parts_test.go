@@ -6,6 +6,7 @@ import (
 	"fmt"
 	"net/http"
 	"net/http/httptest"
+	"path/filepath"
 	"reflect"
 	"strings"
 	"testing"
@@ -43,6 +44,8 @@ func (f *fakeBook) ServeHTTP(w http.ResponseWriter, r *http.Request) {
 		fmt.Fprint(w, `{"status":409,"error":"undetermined"}`)
 	case strings.HasSuffix(path, "/may-lose"):
 		fmt.Fprintf(w, `{"safe":%v}`, f.isSafe)
+	case path == "/matrix":
+		fmt.Fprint(w, `{"rows":[]}`)
 	default:
 		fmt.Fprint(w, `{"rows":[{"stripe":1,"home_0":"7:0","home_1":"7:1","home_2":"7:2","home_3":"7:3"}]}`)
 	}
@@ -168,6 +171,35 @@ func TestAMonitorCountsInARow(t *testing.T) {
 	for i, want := range []int{1, 2, -1, -2, 1, -1} {
 		if m.count(7, []bool{true, true, false, false, true, false}[i]); m.answers[7] != want {
 			t.Errorf("after %d: %d", i+1, m.answers[7])
+		}
+	}
+}
+
+func TestAGatewayUsesNoNumberTwiceAndDropsWhatNobodyWasTold(t *testing.T) {
+	folder := filepath.Join(t.TempDir(), "gateway")
+	for _, want := range []struct {
+		number int
+		asked  []string
+	}{
+		{0, []string{"drop 1"}}, // the book has stripe 1, and no object has it
+		{ofReserve, []string{"drop 1"}},
+		{2 * ofReserve, nil}, // now an object has it
+	} {
+		fake := &fakeBook{replies: map[string][]string{"drop": {`{"reply":"dropped","kind":"dropped"}`}}}
+		book, nodes := newTest(t, fake)
+		g, err := openGateway(&Cluster{Book: "p0", Servers: book.servers, Nodes: nodes.cluster.Nodes}, folder)
+		if err != nil {
+			t.Fatal(err)
+		}
+		if number, err := g.number(); number != want.number || err != nil || !reflect.DeepEqual(fake.asked, want.asked) {
+			t.Errorf("%d %v %q, and not %+v", number, err, fake.asked, want)
+		}
+		g.index.Objects["x"] = Object{1, []int{1}}
+		if want.number > 0 {
+			err = g.save()
+		}
+		if err != nil {
+			t.Fatal(err)
 		}
 	}
 }
