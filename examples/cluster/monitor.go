@@ -8,7 +8,7 @@ import (
 // How often nodes are asked, and how often in a row before the book is told.
 const (
 	pauseOfMonitor = 200 * time.Millisecond
-	limitOfMonitor = 2 * time.Second
+	limitOfMonitor = 5 * time.Second
 	missesToDown   = 3
 	missesToFail   = 15
 	answersToUp    = 2
