@@ -155,6 +155,14 @@ func (c Command) get(argument argument) uint64 {
 		node: uint64(c.Node), domain: uint64(c.Domain)}[argument]
 }
 
+// Word is the first word of the command.
+func (c Command) Word() string {
+	if form, ok := forms[c.Kind]; ok {
+		return form.word
+	}
+	return "command"
+}
+
 // String is the command as a line of a script.
 func (c Command) String() string {
 	form, ok := forms[c.Kind]

@@ -1,10 +1,6 @@
 package book
 
-import (
-	"fmt"
-	"strconv"
-	"strings"
-)
+import "strconv"
 
 // A ReplyKind has the numbers of lrc_reply_kind.
 type ReplyKind uint8
@@ -60,7 +56,12 @@ func (r Repair) sources() int {
 type Seat struct{ Node, Slot uint16 }
 
 // String writes NODE:SLOT.
-func (s Seat) String() string { return fmt.Sprintf("%d:%d", s.Node, s.Slot) }
+func (s Seat) String() string { return string(s.append(nil)) }
+
+func (s Seat) append(text []byte) []byte {
+	text = append(strconv.AppendUint(text, uint64(s.Node), 10), ':')
+	return strconv.AppendUint(text, uint64(s.Slot), 10)
+}
 
 // A LeaseRow has the layout of lrc_lease.
 type LeaseRow struct {
@@ -100,8 +101,8 @@ func OfNotHolder(session uint8) Reply {
 	return Reply{Kind: Refused, Refusal: NotHolder, Detail: uint32(session)}
 }
 
-// word is that of the reply's kind.
-func (r *Reply) word() string { return replyWords[r.Kind] }
+// Word is the first word of the reply, which is that of its kind.
+func (r *Reply) Word() string { return replyWords[r.Kind] }
 
 func (r *Reply) seats() []Seat {
 	switch r.Kind {
@@ -117,27 +118,34 @@ func (r *Reply) sources() []uint8 { return r.Sources[:r.Repair.sources()] }
 
 // String is the reply as `lrcman run` prints it, without the number of its entry.
 func (r *Reply) String() string {
-	words := []string{r.word()}
+	text := append(make([]byte, 0, 192), r.Word()...) // (most replies have room in it)
 	switch r.Kind {
 	case Placed, Placed6:
 		for _, seat := range r.seats() {
-			words = append(words, seat.String())
+			text = seat.append(append(text, ' '))
 		}
 	case Granted:
-		lease := r.Lease
-		words = append(words, fmt.Sprintf("%d %d %v epoch %d %v", lease.Stripe, lease.Fragment, lease.Target, lease.Epoch, r.Repair))
+		text = appendNumber(text, uint32(r.Lease.Stripe))
+		text = appendNumber(text, uint32(r.Lease.Fragment))
+		text = r.Lease.Target.append(append(text, ' '))
+		text = appendNumber(append(text, " epoch"...), r.Lease.Epoch)
+		text = append(append(text, ' '), r.Repair.String()...)
 		for _, source := range r.sources() {
-			words = append(words, strconv.Itoa(int(source)))
+			text = appendNumber(text, uint32(source))
 		}
 	case Ticked:
-		words = append(words, fmt.Sprintf("%d %d", r.Clock, r.Ended))
+		text = appendNumber(appendNumber(text, r.Clock), r.Ended)
 	case Refused:
-		words = append(words, strconv.Itoa(int(r.Refusal)))
+		text = appendNumber(text, uint32(r.Refusal))
 		if detailed[r.Refusal] {
-			words = append(words, strconv.Itoa(int(r.Detail)))
+			text = appendNumber(text, r.Detail)
 		}
 	}
-	return strings.Join(words, " ")
+	return string(text)
+}
+
+func appendNumber(text []byte, number uint32) []byte {
+	return strconv.AppendUint(append(text, ' '), uint64(number), 10)
 }
 
 // A Spoken is a reply as JSON has it: its line, and the same in numbers. What the kind lacks is left out.
@@ -181,7 +189,7 @@ func (n Numbers) MarshalJSON() ([]byte, error) {
 
 // Speak returns the reply in words and numbers.
 func (r *Reply) Speak() Spoken {
-	spoken := Spoken{Reply: r.String(), Kind: r.word()}
+	spoken := Spoken{Reply: r.String(), Kind: r.Word()}
 	for _, seat := range r.seats() {
 		spoken.Seats = append(spoken.Seats, JSONSeat(seat))
 	}

@@ -10,6 +10,7 @@ import (
 	"net/http"
 	"reflect"
 	"strings"
+	"sync"
 	"unicode/utf8"
 
 	"lrcman/service/internal/book"
@@ -49,7 +50,7 @@ func checkFields(text []byte, value interface{}) error {
 	} else if token != json.Delim('{') {
 		return bad("the body is not a JSON object")
 	}
-	fields, seen := fieldsOf(value), map[string]bool{}
+	fields, seen := fieldsOf(reflect.TypeOf(value).Elem()), map[string]bool{}
 	for decoder.More() {
 		token, err := decoder.Token()
 		name, isName := token.(string)
@@ -76,12 +77,19 @@ func checkFields(text []byte, value interface{}) error {
 	return nil
 }
 
-// fieldsOf are the names of the fields of a pointer to a struct.
-func fieldsOf(value interface{}) map[string]bool {
-	fields, kind := map[string]bool{}, reflect.TypeOf(value).Elem()
+// known are the fields of structs that were decoded: a map[string]bool by reflect.Type.
+var known sync.Map
+
+// fieldsOf are the names of the fields of a struct.
+func fieldsOf(kind reflect.Type) map[string]bool {
+	if fields, isKnown := known.Load(kind); isKnown {
+		return fields.(map[string]bool)
+	}
+	fields := map[string]bool{}
 	for i := 0; i < kind.NumField(); i++ {
 		fields[kind.Field(i).Tag.Get("json")] = true
 	}
+	known.Store(kind, fields)
 	return fields
 }
 

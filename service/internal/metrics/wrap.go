@@ -84,7 +84,7 @@ func (m *Metrics) Wrap(next http.Handler) http.Handler {
 func (m *Metrics) note(r *http.Request, status int, took time.Duration) {
 	route, book := routeOf(r.URL.Path)
 	m.requests.WithLabelValues(route, strconv.Itoa(status)).Inc()
-	if route == "/events" || r.URL.Query().Get("follow") == "1" {
+	if route == "/events" || r.URL.RawQuery != "" && r.URL.Query().Get("follow") == "1" {
 		return
 	}
 	m.duration.WithLabelValues(route).Observe(took.Seconds())

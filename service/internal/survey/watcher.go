@@ -3,7 +3,6 @@ package survey
 import (
 	"context"
 	"errors"
-	"strings"
 	"sync"
 	"time"
 
@@ -179,6 +178,9 @@ func (t *track) read(v View, now time.Time, isNew bool) (bool, error) {
 	}
 	for i := range entries {
 		t.place++
+		if t.place+lastLines > made { // (words for those that are shown, and not for thousands a second)
+			t.show(lineOf(t.place, &entries[i]))
+		}
 		t.count(&entries[i], now)
 	}
 	return t.place < made && len(entries) > 0, nil
@@ -208,7 +210,7 @@ func (t *track) begin(v View, made uint64, isNew bool) error {
 	}
 	entries, err := v.Entries(from, int(made-from))
 	for i := range entries {
-		t.show(Line{from + uint64(i) + 1, entries[i].Session, entries[i].Command.String(), entries[i].Reply.String()})
+		t.show(lineOf(from+uint64(i)+1, &entries[i]))
 	}
 	return err
 }
@@ -220,16 +222,13 @@ func (t *track) show(line Line) {
 	t.last = append(t.last, line)
 }
 
-func firstWord(text string) string {
-	word, _, _ := strings.Cut(text, " ")
-	return word
+func lineOf(n uint64, entry *book.Entry) Line {
+	return Line{n, entry.Session, entry.Command.String(), entry.Reply.String()}
 }
 
 func (t *track) count(entry *book.Entry, now time.Time) {
 	reply := &entry.Reply
-	line := Line{t.place, entry.Session, entry.Command.String(), reply.String()}
-	t.show(line)
-	t.counts.Commands[Cause{firstWord(line.Command), firstWord(line.Reply)}]++
+	t.counts.Commands[Cause{entry.Command.Word(), reply.Word()}]++
 	at := now.UnixNano() / int64(span)
 	b := &t.ring[at%buckets]
 	if b.at != at {
