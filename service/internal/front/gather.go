@@ -11,10 +11,11 @@ import (
 )
 
 const (
-	underWay  = 4         // entries that are proposed at once
-	ofEntry   = 512       // items of an entry, at most
-	bytesOf   = 512 << 10 // texts of an entry beyond which no item is added
-	mayWait   = 4096      // items
+	underWay  = 4                      // entries that are proposed at once, at most
+	holdTime  = 100 * time.Millisecond // in which an entry is told, or the next one is proposed beside it
+	ofEntry   = 512                    // items of an entry, at most
+	bytesOf   = 512 << 10              // texts of an entry beyond which no item is added
+	mayWait   = 4096                   // items
 	retryTime = 10 * time.Millisecond
 )
 
@@ -56,28 +57,41 @@ func (f *Front) do(ctx context.Context, item *state.Item) (state.Answer, error) 
 	}
 }
 
-// gather makes an entry of all items that came while those before were under way: one sync serves them all.
+// gather makes an entry of all items that came while the one before was under way: one sync serves them all, and a slow disk
+// makes greater entries, not more of them. An entry that is lost on the way to the leader does not hold up the next ones.
 func (f *Front) gather() {
-	slots := make(chan struct{}, underWay)
+	slots, before := make(chan struct{}, underWay), make(chan struct{})
+	close(before)
 	for {
 		select {
 		case first := <-f.queue:
+			f.hold(before)
 			select {
-			case slots <- struct{}{}: // while this waits the queue fills: a slow disk makes greater entries, not more of them
+			case slots <- struct{}{}:
 			case <-f.stop:
 				return
 			}
-			if batch := f.batch(first); len(batch) > 0 {
-				go func() {
-					f.propose(batch)
-					<-slots
-				}()
-			} else {
+			told := make(chan struct{})
+			before = told
+			go func(batch []*pending) {
+				f.propose(batch)
+				close(told)
 				<-slots
-			}
+			}(f.batch(first))
 		case <-f.stop:
 			return
 		}
+	}
+}
+
+// hold returns when an entry is told, or takes too long.
+func (f *Front) hold(before <-chan struct{}) {
+	timer := time.NewTimer(holdTime)
+	defer timer.Stop()
+	select {
+	case <-before:
+	case <-timer.C:
+	case <-f.stop:
 	}
 }
 
@@ -102,6 +116,9 @@ func (f *Front) batch(first *pending) []*pending {
 }
 
 func (f *Front) propose(batch []*pending) {
+	if len(batch) == 0 {
+		return // (all callers are gone)
+	}
 	items := make([]*state.Item, len(batch))
 	for i, p := range batch {
 		items[i] = p.item
