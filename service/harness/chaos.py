@@ -31,7 +31,7 @@ class Chaos:
 
     def dice(self):
         """What happens next, from 0 to 1: at first one is killed and one is stopped, and then chance decides."""
-        return {0: 0.0, 1: 0.5}.get(sum(self.acts.values()), self.random.random())
+        return {0: 0.2, 1: 0.5}.get(sum(self.acts.values()), self.random.random())
 
     def act(self, now):
         group = self.group
@@ -39,7 +39,10 @@ class Chaos:
         if len(self.away) >= (len(group.members) - 1) // 2:
             return
         number, dice = self.random.choice([it for it in group.members if it not in self.away]), self.dice()
-        if dice < 0.45:
+        if dice < 0.1:
+            group.lead(number)
+            self.count("made leader")
+        elif dice < 0.45:
             group.members[number].kill()
             self.away[number] = now + self.random.uniform(0, 1.5)
             self.count("killed")

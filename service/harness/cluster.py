@@ -164,6 +164,10 @@ class Group:
             time.sleep(0.1)
         raise RuntimeError(f"{method} {path} is not made")
 
+    def lead(self, number):
+        """Asks for another leader. Whether it comes to lead in time is nobody's fault."""
+        self.asker.json(self.members[number].client, "POST", f"/leader/{number}")
+
     def add(self, number):
         member = Member(self, number, self.words)
         self.change("PUT", f"/members/{number}", {"peer": f"127.0.0.1:{member.peer}", "client": f"127.0.0.1:{member.client}"})

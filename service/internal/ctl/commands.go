@@ -200,6 +200,17 @@ func (s *session) members([]string) error {
 	return s.print(rows)
 }
 
+// lead makes a member the leader, and prints the members once it is.
+func (s *session) lead(words []string) error {
+	if _, err := strconv.ParseUint(words[0], 10, 16); err != nil {
+		return usagef("%q is no number of a member", words[0])
+	}
+	if _, err := s.ask(s.ctx, query{method: "POST", path: "/leader/" + words[0]}); err != nil {
+		return err
+	}
+	return s.members(nil)
+}
+
 // table prints a table with the columns of `lrcman show`.
 func (s *session) table(words []string) error {
 	book, what := words[0], words[1]

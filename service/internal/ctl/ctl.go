@@ -52,6 +52,7 @@ const help = `usage: lrcmand ctl [OPTIONS] COMMAND
   status                        the member that answers, and each book in a line
   books                         the books
   members                       the members of the group
+  lead ID                       makes a member the leader
   table BOOK WHAT               WHAT: status, stripes, nodes, leases, work or workers
   call BOOK COMMAND..           one command, as: call p0 lease 17 3
   ok-to-stop BOOK NODE..        status 0: these may be stopped at once; 4: a stripe would be harmed.
@@ -73,7 +74,7 @@ var commands map[string]command
 func init() {
 	commands = map[string]command{"status": {0, 0, (*session).status}, "books": {0, 0, (*session).books}, "members": {0, 0, (*session).members},
 		"table": {2, 2, (*session).table}, "call": {2, -1, (*session).call}, "ok-to-stop": {2, -1, (*session).okToStop},
-		"drain": {2, 2, (*session).drain}, "watch": {1, 1, (*session).watch}}
+		"drain": {2, 2, (*session).drain}, "watch": {1, 1, (*session).watch}, "lead": {1, 1, (*session).lead}}
 }
 
 // A session is one run of ctl.

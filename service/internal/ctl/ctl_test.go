@@ -56,6 +56,11 @@ func (s *service) ServeHTTP(w http.ResponseWriter, r *http.Request) {
 		"/books/p0/log":     `{"n":18,"session":2,"command":"lease 1 3","reply":"refused 110 1","kind":"refused","refusal":110,"name":"already leased","detail":1}` + "\n\n" + `{"n":19,"session":1,"command":"tick","reply":"ticked 1 0","kind":"ticked"}`,
 	}
 	switch {
+	case r.Method == "POST" && r.URL.Path == "/leader/1":
+		io.WriteString(w, texts["/members"]+"\n")
+	case r.Method == "POST" && strings.HasPrefix(r.URL.Path, "/leader/"):
+		w.WriteHeader(409)
+		io.WriteString(w, `{"status":409,"error":"there is no member 9"}`+"\n")
 	case r.URL.Path == "/books/p0/call":
 		s.call(w, r)
 	case r.URL.Path == "/books/p0/show/leases" && r.URL.Query().Get("format") == "csv":
@@ -141,6 +146,9 @@ func TestEachCommandHasItsStatusAndWords(t *testing.T) {
 		{"status", 0, []string{"member 2 of 3 at ", "leader 1, term 7, applied 89 of 90", "p0    degraded  60       59     1"}, ""},
 		{"books", 0, []string{"BOOK  ENTRIES  OPENED\np0    17       1\n"}, ""},
 		{"books -o json", 0, []string{`{"index":89,"age_ms":1,"books":[{"name":"p0","n":17,"opens":1}]}` + "\n"}, ""},
+		{"lead 1", 0, []string{"1       h1:7422      h1:7421      yes\n"}, ""},
+		{"lead x", 2, nil, `"x" is no number of a member`},
+		{"lead 9", 1, nil, "there is no member 9 (409 from http://"},
 		{"members", 0, []string{"1       h1:7422      h1:7421      yes\n2       -            h2:7421      no\n"}, ""},
 		{"table p0 leases", 0, []string{"stripe  fragment  holder  target  epoch  expiry\n1       3         2       17:0    1      3\n"}, ""},
 		{"table p0 workers", 0, []string{"1       3         2      w7\n"}, ""},
