@@ -14,6 +14,7 @@ import (
 	"reflect"
 	"strings"
 	"sync"
+	"sync/atomic"
 	"testing"
 	"time"
 
@@ -603,6 +604,55 @@ func TestNobodyKnowsIsToldOrTriedAgain(t *testing.T) {
 	s.expect("POST", "/books/p0/call", `{"command":"tick"}`, 200, `{"n":5,"opens":1,"reply":"ticked 5 0","kind":"ticked","clock":5,"ended":0}`)
 	lost(1000000, false, engine.ErrNoLeader)
 	s.refused("POST", "/books/p0/call", `{"command":"tick"}`, 503, "there is no leader")
+}
+
+// stuck is an engine in which the second proposal takes until it is released.
+type stuck struct {
+	*local
+	proposals int32
+	released  chan struct{}
+}
+
+func (s *stuck) Propose(ctx context.Context, payload []byte) (interface{}, error) {
+	if atomic.AddInt32(&s.proposals, 1) == 2 { // (the first one makes the book)
+		<-s.released
+	}
+	return s.local.Propose(ctx, payload)
+}
+
+func TestAnEntryThatIsStuckDoesNotHoldUpOthers(t *testing.T) {
+	var e *stuck
+	s := newService(t, func(f *Front) {
+		e = &stuck{local: f.Engine.(*local), released: make(chan struct{})}
+		f.Engine, f.Timeout = e, time.Minute
+	})
+	told := make(chan error)
+	call := func() {
+		item := &state.Item{Action: state.Call, Book: "p0", Session: 1, Command: book.Command{Kind: book.Tick}}
+		_, err := s.front.do(context.Background(), item)
+		told <- err
+	}
+	go call()
+	eventually(t, func() bool { return atomic.LoadInt32(&e.proposals) == 2 })
+	go call() // this one comes through
+	if err := <-told; err != nil {
+		t.Error(err)
+	}
+	s.expect("GET", "/books/p0/log", "", 200,
+		`{"n":1,"session":1,"command":"tick","reply":"ticked 1 0","kind":"ticked","clock":1,"ended":0}`)
+	close(e.released)
+	if err := <-told; err != nil {
+		t.Error(err)
+	}
+}
+
+func eventually(t *testing.T, is func() bool) {
+	t.Helper()
+	for end := time.Now().Add(20 * time.Second); !is(); time.Sleep(time.Millisecond) {
+		if time.Now().After(end) {
+			t.Fatal("it does not come")
+		}
+	}
 }
 
 func TestTheLeaderTicksBooksWithLeases(t *testing.T) {
