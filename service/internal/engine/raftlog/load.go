@@ -82,10 +82,14 @@ func (n *Node) openLog() (isOld bool, err error) {
 		}
 		// Killed in its first moments: it has promised nothing, and without its first entries it would wait for ever.
 		n.wal.Close()
+		n.wal = nil
 		n.storage = raft.NewMemoryStorage()
 		if err := os.RemoveAll(n.logFolder()); err != nil {
 			return false, err
 		}
+	}
+	if err := n.checkMark(mark{}); err != nil {
+		return false, err
 	}
 	if n.wal, err = wal.Create(n.zap, n.logFolder(), n.metadata()); err != nil {
 		return false, err
@@ -112,13 +116,28 @@ var opened = func(*wal.WAL) {}
 
 // load begins in the newest snapshot that is whole, and reads the log behind it. It returns false if the log has no hard
 // state: then no vote was given, and nothing acknowledged.
-func (n *Node) load() (bool, error) {
+func (n *Node) load() (isOld bool, err error) {
+	defer func() {
+		if why := recover(); why != nil { // (etcd's reader panics where a record is of another kind than it says)
+			err = n.unreadable(0, fmt.Errorf("%v", why))
+		}
+	}()
 	newest, err := n.loadSnapshot()
 	if err != nil {
 		return false, err
 	}
 	hard, entries, err := n.readLog(newest)
 	if err != nil {
+		return false, err
+	}
+	last := mark{term: hard.Term}
+	if newest != nil {
+		last.index = newest.Metadata.Index
+	}
+	if len(entries) > 0 {
+		last.index = entries[len(entries)-1].Index
+	}
+	if err := n.checkMark(last); err != nil {
 		return false, err
 	}
 	if err := n.storage.SetHardState(hard); err != nil {
@@ -191,7 +210,9 @@ func (n *Node) readLog(newest *raftpb.Snapshot) (raftpb.HardState, []raftpb.Entr
 			return raftpb.HardState{}, nil, n.unreadable(at.Index, err)
 		}
 		metadata, hard, entries, err := n.wal.ReadAll()
-		if err == nil && string(metadata) != string(n.metadata()) {
+		if err == nil && metadata == nil {
+			return hard, nil, n.unreadable(at.Index, errors.New("its head is gone"))
+		} else if err == nil && string(metadata) != string(n.metadata()) {
 			return hard, nil, errNotMember
 		} else if err == nil {
 			return hard, entries, nil
@@ -201,7 +222,7 @@ func (n *Node) readLog(newest *raftpb.Snapshot) (raftpb.HardState, []raftpb.Entr
 		if err != io.ErrUnexpectedEOF || isRepaired || !wal.Repair(n.zap, n.logFolder()) {
 			return hard, nil, n.unreadable(at.Index, err)
 		}
-		n.cfg.Log.Printf("the log ended in a torn record, which was cut off: nobody was told of it")
+		n.cfg.Log.Printf("the log ended in a torn record, which was cut off")
 	}
 }
 

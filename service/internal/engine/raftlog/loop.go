@@ -97,6 +97,7 @@ func (n *Node) serve(ready raft.Ready) bool {
 	}
 	n.giveReads(ready.ReadStates)
 	isMember = n.apply(committed) && isMember
+	n.must("the mark can't be written", n.writeMark(mark{atomic.LoadUint64(&n.applied), atomic.LoadUint64(&n.term)}))
 	if !n.isLeader && changesMembers {
 		n.send(ready.Messages)
 	}

@@ -8,6 +8,7 @@ import (
 	"errors"
 	"log"
 	"net/http"
+	"os"
 	"path/filepath"
 	"sync"
 	"sync/atomic"
@@ -73,7 +74,9 @@ type Node struct {
 	isLeader bool             // of the loop
 	changed  []changed        // of the loop: changes of members that nobody was told of yet
 	isSaving bool             // of the loop: a snapshot is being written
-	retryAt  time.Time        // of the loop: no snapshot before
+	marked   mark             // of the loop
+	markFile *os.File
+	retryAt  time.Time // of the loop: no snapshot before
 
 	readers    chan struct{}
 	snapshots  chan chan error
@@ -112,6 +115,9 @@ func (n *Node) begin() error {
 	if err := n.takeFolder(); err != nil {
 		return err
 	}
+	if err := n.openMark(); err != nil {
+		return err
+	}
 	isOld, err := n.openLog()
 	if err != nil {
 		return err
@@ -136,6 +142,9 @@ func (n *Node) release() {
 	}
 	if n.wal != nil {
 		n.wal.Close()
+	}
+	if n.markFile != nil {
+		n.markFile.Close()
 	}
 	if n.lock != nil {
 		n.lock.Close()

@@ -3,6 +3,7 @@ package raftlog
 import (
 	"bytes"
 	"context"
+	"encoding/binary"
 	"encoding/json"
 	"errors"
 	"fmt"
@@ -370,8 +371,15 @@ func TestATornEndOfTheLogIsCutOff(t *testing.T) {
 	cfg, words := configOf(t, t.TempDir(), alone, alone)
 	n, _ := begin(t, cfg)
 	proposeAll(t, n, texts(1, 20))
+	marked, err := os.ReadFile(filepath.Join(cfg.Dir, markName))
+	if err != nil {
+		t.Fatal(err)
+	}
 	propose(t, n, strings.Repeat("x", 8000))
 	n.Close()
+	if err := os.WriteFile(filepath.Join(cfg.Dir, markName), marked, 0o600); err != nil { // (that is written later)
+		t.Fatal(err)
+	}
 	text, err := os.ReadFile(logFile(t, cfg))
 	if err != nil {
 		t.Fatal(err)
@@ -406,6 +414,72 @@ func TestADamagedLogIsRefused(t *testing.T) {
 	change(t, logFile(t, cfg), bytes.Index(text, []byte("entry 7")))
 	if _, err := Start(cfg, &list{}); err == nil || !strings.Contains(err.Error(), "the log") {
 		t.Fatal(err)
+	}
+}
+
+// A length that is another one can look like a torn end, or like the end of the log.
+func TestALogThatEndsTooEarlyIsRefused(t *testing.T) {
+	t.Parallel()
+	for name, damage := range map[string]func(text []byte, at int){
+		"no length":      func(text []byte, at int) { copy(text[at:], make([]byte, 8)) },
+		"a longer one":   func(text []byte, at int) { text[at+1]++ },
+		"far longer":     func(text []byte, at int) { text[at+2]++ },
+		"nothing behind": func(text []byte, at int) { copy(text[at:], make([]byte, len(text))) },
+	} {
+		damage := damage
+		t.Run(name, func(t *testing.T) {
+			t.Parallel()
+			cfg, _ := configOf(t, t.TempDir(), alone, alone)
+			n, _ := begin(t, cfg)
+			proposeAll(t, n, texts(1, 20))
+			n.Close()
+			text, err := os.ReadFile(logFile(t, cfg))
+			if err != nil {
+				t.Fatal(err)
+			}
+			damage(text, lengthBefore(t, text, "entry 7"))
+			if err := os.WriteFile(logFile(t, cfg), text, 0o600); err != nil {
+				t.Fatal(err)
+			}
+			for start := 1; start <= 2; start++ {
+				if _, err := Start(cfg, &list{}); err == nil || !strings.Contains(err.Error(), "add one with an empty folder") {
+					t.Fatalf("start %d: %v", start, err)
+				}
+			}
+		})
+	}
+}
+
+// lengthBefore is the place of the length of the record with a text: eight bytes, of which the highest tells the padding.
+func lengthBefore(t *testing.T, log []byte, text string) int {
+	t.Helper()
+	found := bytes.Index(log, []byte(text))
+	for at := found / 8 * 8; at > found-100; at -= 8 {
+		if length := int(binary.LittleEndian.Uint32(log[at:])); log[at+7]&0x78 == 0 && length > 0 && length < 100 && at+8+length > found {
+			return at
+		}
+	}
+	t.Fatal("the record has no length")
+	return 0
+}
+
+func TestALogThatIsGoneIsRefused(t *testing.T) {
+	t.Parallel()
+	cfg, words := configOf(t, t.TempDir(), alone, alone)
+	n, _ := begin(t, cfg)
+	proposeAll(t, n, texts(1, 3))
+	n.Close()
+	if err := os.RemoveAll(filepath.Join(cfg.Dir, "wal")); err != nil {
+		t.Fatal(err)
+	}
+	if _, err := Start(cfg, &list{}); err == nil || !strings.Contains(err.Error(), "it ends at entry 0") {
+		t.Fatal(err)
+	}
+	change(t, filepath.Join(cfg.Dir, markName), 3) // a mark that is damaged says nothing
+	n, _ = begin(t, cfg)
+	propose(t, n, "entry 1")
+	if !strings.Contains(words.String(), "mark can't be read") {
+		t.Errorf("said: %q", words)
 	}
 }
 
