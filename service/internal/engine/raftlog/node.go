@@ -17,7 +17,6 @@ import (
 	"go.etcd.io/etcd/etcdserver/api/rafthttp"
 	"go.etcd.io/etcd/etcdserver/api/snap"
 	"go.etcd.io/etcd/pkg/fileutil"
-	"go.etcd.io/etcd/pkg/idutil"
 	"go.etcd.io/etcd/pkg/transport"
 	"go.etcd.io/etcd/raft"
 	"go.etcd.io/etcd/raft/raftpb"
@@ -56,7 +55,7 @@ type Node struct {
 	snaps   *snap.Snapshotter
 	peers   *rafthttp.Transport
 	server  *http.Server
-	ids     *idutil.Generator
+	numbers *numbers
 	zap     *zap.Logger
 
 	lead, term, commit, applied, saved uint64 // atomic; saved is the index of the last snapshot
@@ -94,8 +93,7 @@ type outcome struct {
 // Start begins a member, or goes on with the one that the folder has.
 func Start(cfg Config, machine engine.Machine) (*Node, error) {
 	n := &Node{cfg: cfg, machine: machine, storage: raft.NewMemoryStorage(), waiting: map[uint64]chan outcome{},
-		ids: idutil.NewGenerator(uint16(cfg.Self.ID), time.Now()), reads: map[uint64]chan uint64{},
-		members: map[uint64]engine.Member{},
+		reads: map[uint64]chan uint64{}, members: map[uint64]engine.Member{},
 		removed: map[uint64]bool{}, round: newRound(), readers: make(chan struct{}, 1), snapshots: make(chan chan error),
 		written: make(chan error, 1), leaving: make(chan uint64), stop: make(chan struct{}), done: make(chan struct{})}
 	if err := n.begin(); err != nil {
@@ -108,7 +106,10 @@ func Start(cfg Config, machine engine.Machine) (*Node, error) {
 	return n, nil
 }
 
-func (n *Node) begin() error {
+func (n *Node) begin() (err error) {
+	if n.numbers, err = newNumbers(n.cfg.Self.ID); err != nil {
+		return err
+	}
 	if err := n.logToNobody(); err != nil {
 		return err
 	}
@@ -181,7 +182,7 @@ func (n *Node) Propose(ctx context.Context, payload []byte) (interface{}, error)
 }
 
 func (n *Node) wait() (uint64, chan outcome) {
-	id, told := n.ids.Next(), make(chan outcome, 1)
+	id, told := n.numbers.next(), make(chan outcome, 1)
 	n.mu.Lock()
 	defer n.mu.Unlock()
 	n.waiting[id] = told

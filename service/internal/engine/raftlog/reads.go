@@ -76,7 +76,7 @@ func (n *Node) readIndex() error {
 	ctx, cancel := context.WithTimeout(context.Background(), patience)
 	defer cancel()
 	for ctx.Err() == nil {
-		id, answer := n.ids.Next(), make(chan uint64, 1)
+		id, answer := n.numbers.next(), make(chan uint64, 1)
 		n.mu.Lock()
 		n.reads[id] = answer
 		n.mu.Unlock()
