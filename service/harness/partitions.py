@@ -78,7 +78,7 @@ class Cut:
     def ask_both(self, until):
         """Asks the one that is cut off: nothing may be told, and no look be as of now."""
         port = self.group.members[self.leader].client
-        while time.monotonic() < until or len(self.asked) < 2:
+        while (time.monotonic() < until or len(self.asked) < 2) and not self.run.faults:
             begun, key = time.monotonic(), f"cut-{len(self.asked)}"
             status, told = self.asker.json(port, "POST", f"/books/{BOOKS[0]}/call", {"command": "tick", "key": key})
             self.asked.append((key, begun))

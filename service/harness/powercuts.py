@@ -74,10 +74,11 @@ def find_fault(faulty, powercut, room, nodes, fault):
     return run, seed
 
 
-def test_power_cuts(count, program, faulty, powercut, room, nodes, seconds):
+def test_power_cuts(count, program, faulty, powercut, room, nodes, seconds, is_long):
     """One member and three, with the files of the log as they are and small; and programs that don't sync are found."""
-    runs = [("one member", program, 1, None), ("one member, small files", faulty, 1, SMALL),
-            ("three members", program, 3, None), ("three members, small files", faulty, 3, SMALL)]
+    runs = [("one member", program, 1, None), ("three members, small files", faulty, 3, SMALL)]
+    if is_long:
+        runs += [("one member, small files", faulty, 1, SMALL), ("three members", program, 3, None)]
     try:
         for name, which, size, env in runs:
             seed = int(time.time())
