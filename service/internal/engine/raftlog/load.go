@@ -56,11 +56,24 @@ func (n *Node) takeFolder() error {
 	}
 	n.lock = lock
 	n.snaps = snap.New(n.zap, n.snapFolder())
-	left, err := filepath.Glob(filepath.Join(n.snapFolder(), "tmp*"))
-	for _, file := range left { // snapshots that were half written when the process ended
-		os.Remove(file)
+	return n.removeLeft()
+}
+
+// removeLeft removes what was not finished when the process ended: snapshots, and files of the log that were made in advance. In
+// one of these a head may stand already, and the rest of it would follow a shorter one.
+func (n *Node) removeLeft() error {
+	for _, pattern := range []string{filepath.Join(n.snapFolder(), "tmp*"), filepath.Join(n.logFolder(), "*.tmp")} {
+		left, err := filepath.Glob(pattern)
+		if err != nil {
+			return err
+		}
+		for _, file := range left {
+			if err := os.Remove(file); err != nil {
+				return err
+			}
+		}
 	}
-	return err
+	return nil
 }
 
 // metadata stands at the head of the log: whose it is.

@@ -463,6 +463,30 @@ func lengthBefore(t *testing.T, log []byte, text string) int {
 	return 0
 }
 
+// A file of the log that was made in advance has nothing of before in it when it is used.
+func TestFilesInAdvanceAreMadeAnew(t *testing.T) {
+	t.Parallel()
+	cfg, _ := configOf(t, t.TempDir(), alone, alone)
+	n, _ := begin(t, cfg)
+	propose(t, n, "entry 1")
+	n.Close()
+	for _, name := range []string{"0.tmp", "1.tmp"} {
+		if err := os.WriteFile(filepath.Join(cfg.Dir, "wal", name), bytes.Repeat([]byte{'x'}, 64<<10), 0o600); err != nil {
+			t.Fatal(err)
+		}
+	}
+	n, _ = begin(t, cfg)
+	for i := 0; i < 20; i++ { // (a file of the log has 64 KiB here)
+		propose(t, n, strings.Repeat("y", 8<<10))
+	}
+	n.Close()
+	n, machine := begin(t, cfg)
+	barrier(t, n)
+	if have := len(machine.all()); have != 21 {
+		t.Fatalf("%d entries", have)
+	}
+}
+
 func TestALogThatIsGoneIsRefused(t *testing.T) {
 	t.Parallel()
 	cfg, words := configOf(t, t.TempDir(), alone, alone)
