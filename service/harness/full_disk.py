@@ -1,5 +1,6 @@
 """A member whose disk is full ends with a word, and goes on when there is room again; nothing that was told is lost."""
 import os
+import shutil
 import subprocess
 import time
 
@@ -23,9 +24,11 @@ class SmallDisk:
     def __init__(self, folder, megabytes):
         self.folder = folder
         os.makedirs(folder, exist_ok=True)
+        if not shutil.which("mount"):
+            raise NoMount("there is no mount")
         ran = subprocess.run(["mount", "-t", "tmpfs", "-o", f"size={megabytes}m", "tmpfs", folder], capture_output=True, text=True)
         if ran.returncode:
-            raise NoMount(ran.stderr.strip())
+            raise NoMount(ran.stderr.strip().split("\n")[0])
 
     def fill(self):
         """Takes all the room that is left."""
