@@ -40,7 +40,7 @@ class Etcds:
         self.processes[number].kill()
         self.processes[number].wait()
 
-    def leader(self, limit=20):
+    def leader(self, limit=120):
         end = time.monotonic() + limit
         while time.monotonic() < end:
             for number, port in self.clients.items():

@@ -72,11 +72,11 @@ def address(group, number):
     return f"127.0.0.1:{group.members[number].client}"
 
 
-def ask(group, method, path, body=None, limit=60):
+def ask(group, method, path, body=None, limit=120):
     """Asks the leader until it answers with 200."""
     end = time.monotonic() + limit
     while time.monotonic() < end:
-        status, _, text = group.asker.ask(group.members[group.leader()].client, method, path, body)
+        status, _, text = group.asker.ask(group.members[group.leader(limit)].client, method, path, body)
         if status == 200:
             return text
         time.sleep(0.05)
@@ -93,13 +93,20 @@ def make_books(group, count):
         ask(group, "PUT", f"/books/p{number}", NODES)
 
 
-def settle(group, limit=60):
-    """Waits until all members have applied the same."""
+def wait_until(what, is_so, limit=120):
     end = time.monotonic() + limit
-    while len({group.status(it).get("applied") for it in group.members.values()}) > 1:
+    while not is_so():
         if time.monotonic() > end:
-            raise RuntimeError("the members do not come to the same index")
-        time.sleep(0.1)
+            raise RuntimeError(f"{what}: not in {limit} seconds")
+        time.sleep(0.05)
+
+
+def settle(group):
+    """Waits until all members have applied the same."""
+    def is_settled():
+        applied = {group.status(it).get("applied") for it in group.members.values()}
+        return len(applied) == 1 and None not in applied
+    wait_until("the members are alike", is_settled)
 
 
 def most_resident(group):
@@ -211,9 +218,7 @@ def restarts(room):
         index = group.status(member)["applied"]
         yield (f"{told['told']:,} calls in {index:,} entries of the log", *restart(room, group))
         ask(group, "POST", "/snapshot")
-        end = time.monotonic() + 60
-        while group.status(member)["snapshot"] < index and time.monotonic() < end:
-            time.sleep(0.05)
+        wait_until("a snapshot", lambda: group.status(member).get("snapshot", 0) >= index)
         yield ("a snapshot in their place", *restart(room, group))
 
 
