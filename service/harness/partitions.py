@@ -8,7 +8,7 @@ from cluster import Asker, Group
 from network import CLIENT, Network, ways_between
 from work import BOOKS, LEAST, Run, Work, make_books
 
-WORDS = ["--election", "500ms", "--snapshot-every", "150", "--trailing", "20", "--tick", "0", "--timeout", "2s"]
+WORDS = ["--election", "500ms", "--snapshot-every", "150", "--trailing", "20", "--tick", "0", "--timeout"]
 
 
 class Trouble:
@@ -50,7 +50,7 @@ def ended(group):
 def bad_network(program, folder, nodes, seconds, seed):
     """One run of three members over links in trouble, and clients whose answers break off."""
     run = Run()
-    group = Group(program, folder, 3, WORDS)
+    group = Group(program, folder, 3, [*WORDS, "2s"])
     with Network(group, seed) as network, group:
         make_books(group, harness.topology_of(nodes))
         work = Work(group, nodes)
@@ -108,7 +108,7 @@ class Cut:
 def leader_cut_off(program, folder, nodes, seed, env=None):
     """The leader hears clients and no member. The others go on without it, and it follows them in the end."""
     run = Run()
-    group = Group(program, folder, 3, WORDS, env)
+    group = Group(program, folder, 3, [*WORDS, "1s"], env)
     with Network(group, seed) as network, group:
         make_books(group, harness.topology_of(nodes))
         work = Work(group, nodes, callers=4)
