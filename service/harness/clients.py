@@ -112,11 +112,14 @@ class Looker(Client):
 
 
 class Reader(Client):
-    """Reads the log of a book as a stream, from one member after the other, until it has an entry of a number."""
+    """Reads the log of a book as a stream, from one member after the other, until it has an entry of a number. An entry that all
+    members have forgotten, as each began in a snapshot behind it, is None."""
+
+    FORGOTTEN = 30  # so many answers in a row that a place is forgotten: no member has it any more
 
     def __init__(self, group, book):
         super().__init__(group, f"reader {book}")
-        self.book, self.entries, self.until, self.conflict = book, [], None, None
+        self.book, self.entries, self.until, self.forgotten = book, [], None, 0
 
     def is_done(self):
         return self.until is not None and len(self.entries) >= self.until
@@ -127,6 +130,8 @@ class Reader(Client):
             try:
                 connection.request("GET", f"/books/{self.book}/log?follow=1&from={len(self.entries)}")
                 answer = connection.getresponse()
+                if answer.status == 410:
+                    self.pass_over(json.loads(answer.read())["before"])
                 while answer.status == 200 and not self.is_done() and self.take(answer.readline()):
                     pass
             except (OSError, http.client.HTTPException, ValueError):
@@ -135,7 +140,14 @@ class Reader(Client):
                 connection.close()
             time.sleep(0.02)
 
+    def pass_over(self, before):
+        """A member has forgotten the entries up to a place. Another one may have them."""
+        self.forgotten += 1
+        if self.forgotten >= self.FORGOTTEN:
+            self.entries += [None] * (before - len(self.entries))
+
     def take(self, line):
+        self.forgotten = 0
         told = json.loads(line) if line.strip() else {}
         if "n" in told:
             if told["n"] != len(self.entries) + 1:

@@ -19,6 +19,8 @@ def model_faults(nodes, book, log):
     """The log is a history of the rules."""
     store = rules.Store(nodes)
     for number, entry in enumerate(log, 1):
+        if entry is None:
+            return [f"{book} {number}: no member has it, and nobody was told of it"]
         right = store.call(entry.session, entry.command)
         if right != entry.reply:
             return [f"{book} {number}: session {entry.session}, {entry.command}: {entry.reply}, and not {right}"]

@@ -1,7 +1,7 @@
 """Books, clients that work on them over a group, and what their answers have to be."""
 import time
 
-from clients import Caller, Looker, Reader
+from clients import Caller, Entry, Looker, Reader
 from judge import image_of, judge
 
 BOOKS = ["p0", "p1", "p2"]
@@ -69,13 +69,20 @@ class Work:
         """Lets the clients end, when all members are up, and judges."""
         run.faults += finish(self.group, self.calls, self.looks, self.reads)
         told, seen = self.told(), [it for one in self.looks for it in one.looks]
-        logs = {one.book: one.entries for one in self.reads}
+        logs = {one.book: filled(one.entries, [it for it in told if it.book == one.book]) for one in self.reads}
         run.faults += judge(self.nodes, logs, told, seen)
-        run.faults += image_faults(self.group, self.nodes, logs)
+        if all(all(log) for log in logs.values()):
+            run.faults += image_faults(self.group, self.nodes, logs)
         run.told, run.looks, run.entries = len(told), len(seen), sum(map(len, logs.values()))
         run.again = sum(one.again for one in self.calls)
         times = sorted(it.told for it in told)
         run.longest = max((b - a for a, b in zip(times, times[1:])), default=0.0)
+
+
+def filled(log, told):
+    """A log with each entry that no member has any more as it was told to its caller."""
+    by_number = {it.n: Entry(it.session, it.command, it.reply) for it in told}
+    return [entry or by_number.get(number) for number, entry in enumerate(log, 1)]
 
 
 def finish(group, calls, looks, reads):
@@ -92,7 +99,7 @@ def finish(group, calls, looks, reads):
         status, reader.until = entries_of(group, leader, reader.book)
         if status != 200:
             faults.append(f"member {leader.number} does not tell the entries of {reader.book}: status {status}")
-    end = time.monotonic() + 20
+    end = time.monotonic() + 60
     for reader in reads:
         reader.join(max(end - time.monotonic(), 0.1))
         reader.is_over.set()
