@@ -39,7 +39,7 @@ func (d *disk) make(mode uint32) *node {
 	return made
 }
 
-// enter begins a request. One that comes while the power is cut waits until it is back, and fails then.
+// enter begins a request, and returns with the lock. One that comes while the power is cut waits until it is back, and fails then.
 func (d *disk) enter() fuse.Status {
 	d.mu.Lock()
 	if !d.isCut {
@@ -76,12 +76,11 @@ func (d *disk) inFolder(number uint64, do func(*folder) syscall.Errno) fuse.Stat
 	if !status.Ok() {
 		return status
 	}
-	if found := d.nodes[number]; found == nil || found.folder == nil {
+	found := d.nodes[number]
+	if found == nil || found.folder == nil {
 		return fuse.ENOTDIR
-	} else if err := do(found.folder); err != 0 {
-		return fuse.Status(err)
 	}
-	return fuse.OK
+	return fuse.Status(do(found.folder))
 }
 
 // inFile is the same for a file.
@@ -91,11 +90,11 @@ func (d *disk) inFile(number uint64, do func(*file)) fuse.Status {
 	if !status.Ok() {
 		return status
 	}
-	if found := d.nodes[number]; found == nil || found.file == nil {
+	found := d.nodes[number]
+	if found == nil || found.file == nil {
 		return fuse.Status(syscall.EISDIR)
-	} else {
-		do(found.file)
 	}
+	do(found.file)
 	return fuse.OK
 }
 

@@ -57,23 +57,23 @@ func TestACutSparesWhatWasSynced(t *testing.T) {
 }
 
 func TestACutMayTakeWhatWasNotSynced(t *testing.T) {
-	old, new := string(bytes.Repeat([]byte{'o'}, pageSize)), string(bytes.Repeat([]byte{'n'}, pageSize))
+	before, after := string(bytes.Repeat([]byte{'b'}, pageSize)), string(bytes.Repeat([]byte{'a'}, pageSize))
 	found := outcomes(func() *file {
 		f := newFile()
-		f.write(0, []byte(old))
+		f.write(0, []byte(before))
 		f.sync()
-		f.write(0, []byte(new))
+		f.write(0, []byte(after))
 		return f
 	})
-	if !found[old] || !found[new] || len(found) < 3 {
-		t.Errorf("%d outcomes, of which none may be left out: lost %v, kept %v, torn", len(found), found[old], found[new])
+	if !found[before] || !found[after] || len(found) < 3 {
+		t.Errorf("%d outcomes, of which none may be left out: lost %v, kept %v, torn", len(found), found[before], found[after])
 	}
 	longer := outcomes(func() *file {
 		f := newFile()
-		f.write(0, []byte(old))
+		f.write(0, []byte(before))
 		return f
 	})
-	if !longer[""] || !longer[old] || !longer[string(zeros[:])] {
+	if !longer[""] || !longer[before] || !longer[string(zeros[:])] {
 		t.Errorf("a file that was never synced has %d outcomes", len(longer))
 	}
 }

@@ -140,8 +140,8 @@ func (f *file) cut(chance *rand.Rand, did *loss) {
 }
 
 // torn is a page of which each sector is the old or the new one.
-func torn(chance *rand.Rand, old, new page) page {
-	made, other := copyOf(old), copyOf(new)
+func torn(chance *rand.Rand, before, after page) page {
+	made, other := copyOf(before), copyOf(after)
 	for at := 0; at < pageSize; at += sectorSize {
 		if chance.Intn(2) == 0 {
 			copy(made[at:at+sectorSize], other[at:])

@@ -58,17 +58,17 @@ func (d *folder) remove(name string, isFolder bool) syscall.Errno {
 	return 0
 }
 
-func (d *folder) rename(old, new string) syscall.Errno {
-	moved, replaced := d.now[old], d.now[new]
+func (d *folder) rename(from, to string) syscall.Errno {
+	moved, replaced := d.now[from], d.now[to]
 	switch {
 	case moved == nil:
 		return syscall.ENOENT
-	case old == new:
+	case from == to:
 		return 0
 	case replaced != nil && replaced.folder != nil && len(replaced.folder.now) > 0:
 		return syscall.ENOTEMPTY
 	}
-	d.change(change{old: nil, new: moved})
+	d.change(change{from: nil, to: moved})
 	return 0
 }
 

@@ -83,14 +83,14 @@ func (d *disk) Rmdir(_ <-chan struct{}, header *fuse.InHeader, name string) fuse
 }
 
 // Rename renames within a folder; lrcmand does not move files to other folders.
-func (d *disk) Rename(_ <-chan struct{}, input *fuse.RenameIn, old, new string) fuse.Status {
+func (d *disk) Rename(_ <-chan struct{}, input *fuse.RenameIn, from, to string) fuse.Status {
 	return d.inFolder(input.NodeId, func(folder *folder) syscall.Errno {
 		if input.Newdir != input.NodeId {
 			return syscall.EXDEV
 		} else if input.Flags != 0 {
 			return syscall.EINVAL
 		}
-		return folder.rename(old, new)
+		return folder.rename(from, to)
 	})
 }
 
