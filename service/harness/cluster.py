@@ -141,7 +141,7 @@ class Group:
     def status(self, member):
         return self.asker.json(member.client, "GET", "/status")[1]
 
-    def leader(self, limit=20):
+    def leader(self, limit=60):
         """The number of the leader; the one of the highest term, if two think that they are."""
         end = time.monotonic() + limit
         while time.monotonic() < end:
@@ -152,7 +152,7 @@ class Group:
             time.sleep(0.02)
         raise RuntimeError(f"there is no leader in {self.folder}")
 
-    def change(self, method, path, value=None, limit=20):
+    def change(self, method, path, value=None, limit=60):
         """Asks one member after the other until the change is made."""
         end = time.monotonic() + limit
         while time.monotonic() < end:

@@ -92,7 +92,7 @@ class Cut:
         if not is_right:
             self.run.faults.append(fault)
 
-    def call(self, number, key, begun, limit=40):
+    def call(self, number, key, begun, limit=60):
         """A call that is made again until it is told, as a caller of its own; it returns None after a while."""
         end = time.monotonic() + limit
         while time.monotonic() < end:
@@ -139,7 +139,7 @@ def test_network(count, program, faulty, room, nodes, seconds):
     run = bad_network(program, f"{room}/network", nodes, seconds, seed)
     print(f"a bad network, seed {seed}: {run}", flush=True)
     count.add(max(run.told + run.looks + run.entries - len(run.faults), 0), run.faults)
-    count.check(f"something happened: {run}", run.told >= LEAST and len(run.acts) > 1)
+    count.check(f"something happened: {run}", run.told >= LEAST and sum(run.acts.values()) > 0)
     run = leader_cut_off(program, f"{room}/apart", nodes, seed)
     print(f"a leader that is cut off, seed {seed}: {run}", flush=True)
     count.add(max(run.told + run.looks + run.entries + run.acts["asked"] - len(run.faults), 0), run.faults)

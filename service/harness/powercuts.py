@@ -46,6 +46,8 @@ def power_cuts(program, powercut, folder, nodes, size, seconds, seed, env=None):
         work.begin()
         cuts, end = Cuts(group, disks, seed, run), time.monotonic() + seconds
         while work.goes_on(end) and not run.faults and not work.faults_so_far():
+            if cuts.random.random() < 0.7:  # (else perhaps before it has begun again)
+                work.wait_for_a_call()
             time.sleep(cuts.random.uniform(0.1, 0.9))
             run.faults += cuts.ended()
             if not run.faults:
@@ -85,7 +87,7 @@ def test_power_cuts(count, program, faulty, powercut, room, nodes, seconds, is_l
             run = power_cuts(which, powercut, f"{room}/cuts{size}{bool(env)}", nodes, size, seconds, seed, env)
             print(f"power cuts, {name}, seed {seed}: {run}", flush=True)
             count.add(max(run.told + run.looks + run.entries - len(run.faults), 0), run.faults)
-            count.check(f"something happened: {run}", run.told >= LEAST and sum(run.acts.values()) > 2)
+            count.check(f"something happened: {run}", run.told >= LEAST and sum(run.acts.values()) > 0)
         for fault in FAULTS:
             run, seed = find_fault(faulty, powercut, room, nodes, fault)
             print(f"power cuts, {fault}: found in run {seed}: {run.faults[:1]}"[:200], flush=True)

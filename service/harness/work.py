@@ -26,12 +26,19 @@ class Run:
 def make_books(group, topology):
     group.leader()
     for book in BOOKS:
-        for _ in range(100):
-            if group.asker.ask(group.members[1].client, "PUT", f"/books/{book}", topology)[0] == 200:
-                break
-            time.sleep(0.05)
-        else:
-            raise RuntimeError(f"the book {book} is not made")
+        status, _ = asked_for(lambda: group.asker.ask(group.members[1].client, "PUT", f"/books/{book}", topology)[:2], [200])
+        if status != 200:
+            raise RuntimeError(f"the book {book} is not made: status {status}")
+
+
+def asked_for(ask, statuses, limit=60):
+    """What is answered when the status is one of these, or time is up."""
+    end = time.monotonic() + limit
+    answer = ask()
+    while answer[0] not in statuses and time.monotonic() < end:
+        time.sleep(0.05)
+        answer = ask()
+    return answer
 
 
 class Work:
@@ -51,10 +58,19 @@ class Work:
     def told(self):
         return [*(it for one in self.calls for it in one.told), *self.more]
 
+    def count_told(self):
+        return sum(len(one.told) for one in self.calls)
+
     def goes_on(self, end):
         """Until a time, and on a slow machine until enough was told."""
         now = time.monotonic()
-        return now < end or now < end + 60 and sum(len(one.told) for one in self.calls) < LEAST and not self.faults_so_far()
+        return now < end or now < end + 60 and self.count_told() < LEAST and not self.faults_so_far()
+
+    def wait_for_a_call(self, limit=60):
+        """Waits until another call is told."""
+        before, end = self.count_told(), time.monotonic() + limit
+        while self.count_told() == before and time.monotonic() < end and not self.faults_so_far():
+            time.sleep(0.01)
 
     def faults_so_far(self):
         return [f"{type(it).__name__}: {it.fault}" for it in [*self.calls, *self.looks, *self.reads] if it.fault]
@@ -111,11 +127,7 @@ def finish(group, calls, looks, reads):
 
 def entries_of(group, member, book):
     """The number of entries of a book as of now, and the status of the answer."""
-    for _ in range(50):
-        status, told = group.asker.json(member.client, "GET", f"/books/{book}?now=1")
-        if status in (200, 404):
-            break
-        time.sleep(0.1)
+    status, told = asked_for(lambda: group.asker.json(member.client, "GET", f"/books/{book}?now=1"), [200, 404])
     return status, told.get("n", 0)
 
 
@@ -124,11 +136,7 @@ def image_faults(group, nodes, logs):
     for book, log in logs.items():
         right = image_of(nodes, log).encode()
         for member in group.members.values():
-            status, _, text = group.asker.ask(member.client, "GET", f"/books/{book}/image?now=1")
-            for _ in range(50):
-                if status == 200:
-                    break
-                time.sleep(0.1)
-                status, _, text = group.asker.ask(member.client, "GET", f"/books/{book}/image?now=1")
+            path = f"/books/{book}/image?now=1"
+            status, _, text = asked_for(lambda: group.asker.ask(member.client, "GET", path), [200])
             if text != right:
                 yield f"{book}: member {member.number} has another image, status {status}"
