@@ -47,7 +47,7 @@ def power_cuts(program, powercut, folder, nodes, size, seconds, seed, env=None):
         cuts, end = Cuts(group, disks, seed, run), time.monotonic() + seconds
         while work.goes_on(end) and not run.faults and not work.faults_so_far():
             if cuts.random.random() < 0.7:  # (else perhaps before it has begun again)
-                work.wait_for_a_call()
+                work.wait_for_a_call(cuts.ended)
             time.sleep(cuts.random.uniform(0.1, 0.9))
             run.faults += cuts.ended()
             if not run.faults:

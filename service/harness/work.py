@@ -66,10 +66,10 @@ class Work:
         now = time.monotonic()
         return now < end or now < end + 60 and self.count_told() < LEAST and not self.faults_so_far()
 
-    def wait_for_a_call(self, limit=60):
-        """Waits until another call is told."""
+    def wait_for_a_call(self, is_over, limit=60):
+        """Waits until another call is told, or there is nothing to wait for."""
         before, end = self.count_told(), time.monotonic() + limit
-        while self.count_told() == before and time.monotonic() < end and not self.faults_so_far():
+        while self.count_told() == before and time.monotonic() < end and not is_over() and not self.faults_so_far():
             time.sleep(0.01)
 
     def faults_so_far(self):
