@@ -23,7 +23,7 @@ WORDS = ["--tick", "0", "--election", "1s", "--snapshot-every", "1000000000"]
 # How much is measured: rounds of so many seconds, takeovers of so many seconds, stripes of each of the 64 books, books of a group
 # with many, and calls before a restart.
 Scale = namedtuple("Scale", "rounds seconds kills watch stripes many calls")
-FULL = Scale(4, 3, 10, 6, 4096, 1000, 1_000_000)
+FULL = Scale(8, 1.5, 10, 6, 4096, 1000, 1_000_000)
 QUICK = Scale(1, 0.2, 1, 3, 4, 80, 2560)
 
 
