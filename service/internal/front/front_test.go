@@ -65,6 +65,8 @@ func (l *local) Add(_ context.Context, member engine.Member) error {
 	if member.ID == 9 {
 		return engine.Refused("there is a member 9 already")
 	}
+	l.mu.Lock()
+	defer l.mu.Unlock()
 	l.members = append(l.members, member)
 	return nil
 }
@@ -719,7 +721,9 @@ func TestARemovalIsNotTriedAgain(t *testing.T) {
 
 func TestVersionAndMembers(t *testing.T) {
 	s := newService(t, nil)
+	s.engine.mu.Lock()
 	s.engine.members = []engine.Member{{ID: 1, Peer: "h:1", Client: "h:2"}}
+	s.engine.mu.Unlock()
 	s.expect("GET", "/members", "", 200, `{"members":[{"id":1,"peer":"h:1","client":"h:2","leader":true}]}`)
 	s.expect("PUT", "/members/2", `{"peer":"i:1","client":"i:2"}`, 200,
 		`{"members":[{"id":1,"peer":"h:1","client":"h:2","leader":true},{"id":2,"peer":"i:1","client":"i:2","leader":false}]}`)
