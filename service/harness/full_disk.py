@@ -26,7 +26,8 @@ class SmallDisk:
         os.makedirs(folder, exist_ok=True)
         if not shutil.which("mount"):
             raise NoMount("there is no mount")
-        ran = subprocess.run(["mount", "-t", "tmpfs", "-o", f"size={megabytes}m", "tmpfs", folder], capture_output=True, text=True)
+        words = ["mount", "-t", "tmpfs", "-o", f"size={megabytes}m", "tmpfs", folder]
+        ran = subprocess.run(words, capture_output=True, text=True)
         if ran.returncode:
             raise NoMount(ran.stderr.strip().split("\n")[0])
 

@@ -33,7 +33,8 @@ class Cuts:
             self.group.start(self.group.members[number])
 
     def ended(self):
-        return [f"member {it.number} ended after a cut: {it.said()[-400:]}" for it in self.group.members.values() if not it.runs()]
+        gone = [it for it in self.group.members.values() if not it.runs()]
+        return [f"member {it.number} ended after a cut: {it.said()[-400:]}" for it in gone]
 
 
 def power_cuts(program, powercut, folder, nodes, size, seconds, seed, env=None):

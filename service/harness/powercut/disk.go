@@ -39,7 +39,8 @@ func (d *disk) make(mode uint32) *node {
 	return made
 }
 
-// enter begins a request, and returns with the lock. One that comes while the power is cut waits until it is back, and fails then.
+// enter begins a request, and returns with the lock. One that comes while the power is cut waits until it is back, and fails
+// then.
 func (d *disk) enter() fuse.Status {
 	d.mu.Lock()
 	if !d.isCut {

@@ -455,7 +455,8 @@ func lengthBefore(t *testing.T, log []byte, text string) int {
 	t.Helper()
 	found := bytes.Index(log, []byte(text))
 	for at := found / 8 * 8; at > found-100; at -= 8 {
-		if length := int(binary.LittleEndian.Uint32(log[at:])); log[at+7]&0x78 == 0 && length > 0 && length < 100 && at+8+length > found {
+		length := int(binary.LittleEndian.Uint32(log[at:]))
+		if log[at+7]&0x78 == 0 && length > 0 && length < 100 && at+8+length > found {
 			return at
 		}
 	}
