@@ -1,4 +1,4 @@
-"""A book moves from one member alone to another, by the steps of docs/SERVICE.md, and goes on there as if nothing had happened."""
+"""A book moves from one member alone to another, by the steps of docs/SERVICE.md, and goes on there as it was."""
 import harness
 import rules
 from cluster import Asker, Group, Member

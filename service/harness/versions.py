@@ -72,7 +72,8 @@ def test_versions(count, faulty, room, nodes):
         one.kill()
         group.env = OLD
         group.start(one)
-        count.check(f"the program of before ends: {one.said()[-300:]}", one.process.wait(60) == 1 and "is of rules 2" in one.said())
+        is_named = one.process.wait(60) == 1 and "is of rules 2" in one.said()
+        count.check(f"the program of before ends: {one.said()[-300:]}", is_named)
 
 
 def restart(group, env):
