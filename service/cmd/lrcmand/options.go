@@ -24,16 +24,16 @@ import (
 
 // options are the words of the command line.
 type options struct {
-	data, listen, peer, group, tokenFile string
-	members                              string
-	cert, key, clientCA                  string
-	peerCert, peerKey, peerCA            string
-	id, tick, snapshotEvery, trailing    uint64
-	join, trustNetwork                   bool
-	election, timeout                    time.Duration
-	self                                 engine.Member
-	first                                []engine.Member
-	rights                               *front.Rights
+	data, listen, peer, group, tokenFile    string
+	members                                 string
+	cert, key, clientCA                     string
+	peerCert, peerKey, peerCA               string
+	id, tick, snapshotEvery, trailing, rate uint64
+	join, trustNetwork                      bool
+	election, timeout                       time.Duration
+	self                                    engine.Member
+	first                                   []engine.Member
+	rights                                  *front.Rights
 }
 
 func parse(words []string) (*options, error) {
@@ -52,6 +52,7 @@ func parse(words []string) (*options, error) {
 	flags.DurationVar(&o.timeout, "timeout", 10*time.Second, "how long a request may take")
 	flags.Uint64Var(&o.snapshotEvery, "snapshot-every", 100000, "entries between snapshots")
 	flags.Uint64Var(&o.trailing, "trailing", 5000, "entries that stay behind a snapshot")
+	flags.Uint64Var(&o.rate, "rate", 0, "requests a second from one address; 0: any number")
 	flags.StringVar(&o.tokenFile, "token-file", "", "lines of ROLE TOKEN")
 	flags.StringVar(&o.cert, "cert", "", "certificate for clients")
 	flags.StringVar(&o.key, "key", "", "its key")
@@ -207,6 +208,14 @@ func isLoopback(address string) bool {
 	host, _, _ := net.SplitHostPort(address)
 	ip := net.ParseIP(host)
 	return host == "localhost" || ip != nil && ip.IsLoopback()
+}
+
+// rates limit the requests of each address; nil if any number may come.
+func (o *options) rates() *front.Rates {
+	if o.rate == 0 {
+		return nil
+	}
+	return front.NewRates(o.rate)
 }
 
 func (o *options) tickTime() time.Duration { return time.Duration(o.tick) * time.Second }

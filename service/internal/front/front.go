@@ -39,6 +39,7 @@ type Front struct {
 	Engine  engine.Engine
 	State   *state.State
 	Rights  *Rights       // nil: all may do all
+	Rates   *Rates        // nil: no address makes too many requests
 	Timeout time.Duration // of one request
 	Tick    time.Duration // between two ticks by the leader; 0: never
 	Log     *log.Logger
@@ -241,6 +242,11 @@ func (q *request) answer() error {
 		return err
 	}
 	q.names = names
+	if route.role != Nobody { // (whoever watches whether this member is well may always ask)
+		if err := q.limitRate(); err != nil {
+			return err
+		}
+	}
 	if q.role, err = q.Rights.roleOf(q.r); err != nil && route.role != Nobody {
 		return err
 	}
