@@ -53,8 +53,8 @@ func serveOnce(t *testing.T, p *Page, token string) *httptest.Server {
 			refuse(w, http.StatusUnauthorized, "no token")
 			return
 		}
-		ctx, cancel := context.WithTimeout(r.Context(), 200*time.Millisecond)
-		defer cancel()
+		ctx, cancel := context.WithCancel(r.Context())
+		cancel() // (the first event is sent all the same)
 		p.Events(w, r.WithContext(ctx))
 	})
 	server := httptest.NewServer(mux)
