@@ -238,7 +238,7 @@ func (s *State) create(index uint64, o *one, item *Item) (Answer, error) {
 	} else if o != nil {
 		return refuse(BookExists, "the book was made with other nodes or another image"), nil
 	}
-	if len(s.books) >= MostBooks {
+	if s.count(index) >= MostBooks {
 		return refuse(TooManyBooks, fmt.Sprintf("there are %d books already", MostBooks)), nil
 	}
 	b, refused, err := open(item.Nodes, item.Image)
@@ -252,6 +252,18 @@ func (s *State) create(index uint64, o *one, item *Item) (Answer, error) {
 	s.books[item.Book] = made
 	s.mu.Unlock()
 	return answer, nil
+}
+
+// count is the number of books at an entry: those that are there, and those that the snapshot lacks since they were removed
+// after this entry, or at its end.
+func (s *State) count(index uint64) int {
+	count := len(s.books)
+	for _, ended := range s.ended {
+		if ended >= index {
+			count++
+		}
+	}
+	return count
 }
 
 func orNone(answer *Answer) Answer {

@@ -578,6 +578,31 @@ func TestASnapshotKnowsWhatWasRemovedMeanwhile(t *testing.T) {
 	}
 }
 
+func TestABookThatIsRemovedLaterStillTakesRoom(t *testing.T) {
+	p := newPlayer(t)
+	for i := 1; i < MostBooks; i++ {
+		p.item(&Item{Action: Create, Book: fmt.Sprintf("p%d", i), Nodes: nodesOf(1, 1)})
+	}
+	write, begun := p.s.Freeze(), p.index
+	later := func(q *player) []Refusal {
+		return []Refusal{q.item(&Item{Action: Create, Book: "q", Nodes: twenty}).Refusal,
+			q.item(&Item{Action: Remove, Book: "p0", At: &Place{0, 1}}).Refusal,
+			q.item(&Item{Action: Create, Book: "r", Nodes: twenty}).Refusal}
+	}
+	if found := later(p); !reflect.DeepEqual(found, []Refusal{TooManyBooks, 0, 0}) {
+		t.Fatal(found)
+	}
+	var text bytes.Buffer
+	if err := write(&text); err != nil {
+		t.Fatal(err)
+	}
+	q := p.restored(text.Bytes())
+	q.index = begun
+	if later(q); !reflect.DeepEqual(q.s.Names(), p.s.Names()) {
+		t.Errorf("the one that began in the snapshot has other books: %d and %d", len(q.s.Names()), len(p.s.Names()))
+	}
+}
+
 // made are the numbers of entries of all books.
 func (p *player) made() map[string]uint64 {
 	made := map[string]uint64{}
