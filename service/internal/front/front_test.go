@@ -606,6 +606,30 @@ func TestNobodyKnowsIsToldOrTriedAgain(t *testing.T) {
 	s.expect("POST", "/books/p0/call", `{"command":"tick"}`, 200, `{"n":5,"opens":1,"reply":"ticked 5 0","kind":"ticked","clock":5,"ended":0}`)
 	lost(1000000, false, engine.ErrNoLeader)
 	s.refused("POST", "/books/p0/call", `{"command":"tick"}`, 503, "there is no leader")
+
+	proposals := 0
+	s.engine.mu.Lock()
+	s.engine.wrong = func([]byte) (bool, error) {
+		if proposals++; proposals == 1 {
+			return true, engine.ErrUnknown
+		}
+		return false, engine.ErrNoLeader
+	}
+	s.engine.mu.Unlock() // the first proposal was made, so to find no leader later on does not mean that nothing was changed
+	s.refused("POST", "/books/p0/call", `{"command":"tick","key":"c"}`, 504, "nobody knows whether it was made")
+}
+
+// Whatever comes behind a removal stands in the next entry: a snapshot that lacks the book has the index of its entry alone.
+func TestARemovalEndsItsEntry(t *testing.T) {
+	f := &Front{queue: make(chan *pending, 8)}
+	for _, action := range []state.Action{state.Call, state.Remove, state.Create} {
+		f.queue <- &pending{item: &state.Item{Action: action}}
+	}
+	for _, count := range []int{2, 1} {
+		if batch := f.batch(<-f.queue); len(batch) != count {
+			t.Errorf("%d items and not %d", len(batch), count)
+		}
+	}
 }
 
 // stuck is an engine in which the second proposal takes until it is released.

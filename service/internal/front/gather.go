@@ -95,7 +95,8 @@ func (f *Front) hold(before <-chan struct{}) {
 	}
 }
 
-// batch takes what waits into one entry, but for those whose callers are gone.
+// batch takes what waits into one entry, but for those whose callers are gone. The removal of a book ends its entry: a snapshot
+// has the index of the entry alone, and what comes behind it has to be made.
 func (f *Front) batch(first *pending) []*pending {
 	var batch []*pending
 	size := 0
@@ -104,7 +105,7 @@ func (f *Front) batch(first *pending) []*pending {
 			batch = append(batch, p)
 			size += len(p.item.Nodes) + len(p.item.Image)
 		}
-		if len(batch) >= ofEntry || size >= bytesOf {
+		if len(batch) >= ofEntry || size >= bytesOf || isRemoval(batch) {
 			return batch
 		}
 		select {
@@ -113,6 +114,11 @@ func (f *Front) batch(first *pending) []*pending {
 			return batch
 		}
 	}
+}
+
+// isRemoval tells whether the last item of an entry removes a book.
+func isRemoval(batch []*pending) bool {
+	return len(batch) > 0 && batch[len(batch)-1].item.Action == state.Remove
 }
 
 func (f *Front) propose(batch []*pending) {
@@ -138,12 +144,15 @@ func (f *Front) proposeItems(items []*state.Item) ([]state.Answer, error) {
 	ctx, cancel := context.WithTimeout(context.Background(), f.Timeout*9/10) // so that those who wait hear how it ended
 	defer cancel()
 	payload := state.Encode(items)
-	for {
+	for isUnknown := false; ; {
 		told, err := f.Engine.Propose(ctx, payload)
 		if err == nil {
 			return told.([]state.Answer), nil
 		}
 		mayRepeat := err == engine.ErrNoLeader || err == engine.ErrUnknown && areOnce(items)
+		if isUnknown = isUnknown || err == engine.ErrUnknown; isUnknown {
+			err = engine.ErrUnknown // (an earlier one may still be made)
+		}
 		if !mayRepeat || ctx.Err() != nil {
 			return nil, err
 		}
