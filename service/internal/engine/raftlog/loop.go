@@ -72,33 +72,29 @@ func (n *Node) serve(ready raft.Ready) bool {
 	n.note(ready)
 	// 1. A leader may send before it saves: its followers save beside it. It hears of no commit before it has saved,
 	// since the next Ready comes only after Advance. Everybody else saves first: a vote or an acknowledgement is a promise.
+	// So does a leader who alone votes: its messages tell learners of commits that rest on its own log.
 	isMember, committed := true, ready.CommittedEntries
-	if n.isLeader {
+	sendsFirst := n.isLeader && len(n.conf.Voters) > 1
+	if sendsFirst {
 		n.send(ready.Messages)
+	}
+	if n.isLeader {
 		// What was saved before is applied and told now, so it does not wait for the sync of what came behind it.
 		var saved []raftpb.Entry
 		saved, committed = split(committed, ready.Entries)
 		isMember = n.apply(saved)
 	}
-	// 2. A snapshot before the hard state that counts on it: else a crash leaves a log that no start can read.
-	if !raft.IsEmptySnap(ready.Snapshot) {
-		n.saveReceived(ready.Snapshot)
-	}
-	// 3. This syncs if there are entries, or a new term or vote.
-	n.must("the log can't be written", n.wal.Save(ready.HardState, ready.Entries))
-	if !raft.IsEmptySnap(ready.Snapshot) {
-		n.takeReceived(ready.Snapshot)
-	}
-	n.must("the log can't be kept", n.storage.Append(ready.Entries))
-	// 4. Whoever counts votes must know the members of the entries that are committed: so these first, if there are some.
+	// 2. What is told from here on is on disk.
+	n.save(ready)
+	// 3. Whoever counts votes must know the members of the entries that are committed: so these first, if there are some.
 	changesMembers := hasChange(committed)
-	if !n.isLeader && !changesMembers {
+	if !sendsFirst && !changesMembers {
 		n.send(ready.Messages)
 	}
 	n.giveReads(ready.ReadStates)
 	isMember = n.apply(committed) && isMember
 	n.must("the mark can't be written", n.writeMark(mark{atomic.LoadUint64(&n.applied), atomic.LoadUint64(&n.term)}))
-	if !n.isLeader && changesMembers {
+	if !sendsFirst && changesMembers {
 		n.send(ready.Messages)
 	}
 	n.raft.Advance()
@@ -107,6 +103,20 @@ func (n *Node) serve(ready raft.Ready) bool {
 		n.trySnapshot() // (one that is being written already will do)
 	}
 	return isMember
+}
+
+// save writes the log. A snapshot comes before the hard state that counts on it: else a crash leaves a log that no start can
+// read.
+func (n *Node) save(ready raft.Ready) {
+	if !raft.IsEmptySnap(ready.Snapshot) {
+		n.saveReceived(ready.Snapshot)
+	}
+	// This syncs if there are entries, or a new term or vote.
+	n.must("the log can't be written", n.wal.Save(ready.HardState, ready.Entries))
+	if !raft.IsEmptySnap(ready.Snapshot) {
+		n.takeReceived(ready.Snapshot)
+	}
+	n.must("the log can't be kept", n.storage.Append(ready.Entries))
 }
 
 // isDue tells whether it is time for a snapshot.

@@ -942,6 +942,26 @@ func TestALearnerKeepsTheLogAndDoesNotVote(t *testing.T) {
 	propose(t, g.nodes[1], "entry 5")
 }
 
+func TestALearnerFollowsOneWhoAloneVotes(t *testing.T) {
+	t.Parallel()
+	g := groupOf(t, 1)
+	proposeAll(t, g.nodes[1], texts(1, 3))
+	member := engine.Member{ID: 2, Peer: testports.Free(t), Client: "127.0.0.1:1", Learner: true}
+	g.must(member)
+	g.members = append(g.members, member)
+	cfg, _ := configOf(t, t.TempDir(), member)
+	cfg.Members = nil
+	g.configs[2] = cfg
+	g.start(2)
+	g.alike(texts(1, 3))
+	propose(t, g.nodes[2], "entry 4")
+	proposeAll(t, g.nodes[1], texts(5, 7))
+	g.nodes[1].Close()
+	g.start(1)
+	proposeAll(t, g.nodes[1], texts(8, 9))
+	g.alike(texts(1, 9))
+}
+
 // expectLearner waits until all members know member 3 as one that learns, or votes.
 func expectLearner(t *testing.T, g *group, is bool) {
 	t.Helper()
