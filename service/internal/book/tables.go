@@ -219,11 +219,7 @@ func (b *Book) showStatus() (Draft, error) {
 		return nil, err
 	}
 	found["leases"] = len(leases)
-	upgrading := Cell(word("none"))
-	if domain, ok := b.Upgrading(); ok {
-		upgrading = number(domain)
-	}
-	clock, made := b.Clock(), b.Made()
+	upgrading, clock, made := b.upgradingCell(), b.Clock(), b.Made()
 	return func() *Table {
 		table := &Table{Columns: []string{"name", "value"}}
 		for _, name := range statusNames {
@@ -234,6 +230,13 @@ func (b *Book) showStatus() (Draft, error) {
 		table.add(word("entries"), number(made))
 		return table
 	}, nil
+}
+
+func (b *Book) upgradingCell() Cell {
+	if domain, ok := b.Upgrading(); ok {
+		return number(domain)
+	}
+	return word("none")
 }
 
 func (t *Table) add(cells ...Cell) { t.Rows = append(t.Rows, cells) }
