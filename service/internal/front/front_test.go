@@ -729,6 +729,24 @@ func TestABookIsRemoved(t *testing.T) {
 		`{"n":1,"opens":1,"reply":"ticked 1 0","kind":"ticked","clock":1,"ended":0}`)
 }
 
+func TestNoStreamGoesOnInABookOfTheSameName(t *testing.T) {
+	s := newService(t, nil)
+	s.call("tick")
+	q := &request{Front: s.front, names: map[string]string{"book": "p0"}}
+	before, err := q.entries(0)
+	if err != nil || len(before.rows) != 1 {
+		t.Fatalf("%+v, %v", before, err)
+	}
+	if _, err := q.follow(before, 1); err != nil {
+		t.Error(err)
+	}
+	s.expect("DELETE", "/books/p0", `{"at":1,"opens":1}`, 200, `{"n":1,"opens":1}`)
+	s.expect("PUT", "/books/p0", nodes(5), 200, `{"n":0,"opens":1}`)
+	if _, err := q.follow(before, 1); err != state.ErrNoBook {
+		t.Error(err)
+	}
+}
+
 // A removal that perhaps was made is not made again: a book that was made under the name meanwhile would be removed.
 func TestARemovalIsNotTriedAgain(t *testing.T) {
 	s := newService(t, nil)

@@ -31,38 +31,55 @@ func (q *request) log() error {
 	default:
 		return &failure{Status: http.StatusTooManyRequests, Words: fmt.Sprintf("%d streams are open already", mostStreams)}
 	}
-	rows, grown, err := q.entries(from)
+	first, err := q.entries(from)
 	if err != nil {
 		return err
 	}
 	q.w.Header().Set("Content-Type", "application/x-ndjson")
 	q.w.Header().Set("Cache-Control", "no-store")
 	q.w.WriteHeader(http.StatusOK)
-	q.stream(from, rows, grown)
+	q.stream(from, first)
 	return nil
 }
 
-func (q *request) entries(from uint64) (rows []book.Entry, grown <-chan struct{}, err error) {
+// A part is what a stream writes next.
+type part struct {
+	rows           []book.Entry
+	grown, removed <-chan struct{}
+}
+
+func (q *request) entries(from uint64) (next part, err error) {
 	err = q.State.Look(q.names["book"], func(view *state.View) (err error) {
-		grown = view.Grown()
-		rows, err = view.Entries(from, ofStream)
+		next.grown, next.removed = view.Grown(), view.Removed()
+		next.rows, err = view.Entries(from, ofStream)
 		return err
 	})
-	return rows, grown, err
+	return next, err
+}
+
+// follow is the part behind another one, unless the book was removed: one of its name is another book.
+func (q *request) follow(before part, from uint64) (part, error) {
+	next, err := q.entries(from)
+	select {
+	case <-before.removed:
+		return next, state.ErrNoBook
+	default:
+		return next, err
+	}
 }
 
 // stream writes entries, and waits for further ones if the client follows. What goes wrong is the last line.
-func (q *request) stream(from uint64, rows []book.Entry, grown <-chan struct{}) {
+func (q *request) stream(from uint64, now part) {
 	for {
-		if !q.writeEntries(from, rows) {
+		if !q.writeEntries(from, now.rows) {
 			return
 		}
-		from += uint64(len(rows))
-		if len(rows) == 0 && !q.wait(grown) {
+		from += uint64(len(now.rows))
+		if len(now.rows) == 0 && !q.wait(now.grown) {
 			return
 		}
 		var err error
-		if rows, grown, err = q.entries(from); err != nil {
+		if now, err = q.follow(now, from); err != nil {
 			text, _ := json.Marshal(failureOf(err))
 			q.w.Write(append(text, '\n'))
 			return

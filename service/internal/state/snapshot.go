@@ -279,7 +279,7 @@ func (c *content) next(r io.Reader) error {
 }
 
 func (r *reader) book() (string, *one, error) {
-	o := &one{keys: map[string]kept{}, holders: map[fragment]holding{}, grown: make(chan struct{})}
+	o := &one{keys: map[string]kept{}, holders: map[fragment]holding{}, grown: make(chan struct{}), removed: make(chan struct{})}
 	name := r.text()
 	o.nodes, o.origin = r.bytes(), r.bytes()
 	o.opens, o.index = r.number(), r.number()

@@ -82,6 +82,7 @@ type one struct {
 	tail    []book.Entry // the last entries before those that the book has
 	holders map[fragment]holding
 	grown   chan struct{} // closed at the next entry
+	removed chan struct{} // closed when it is removed
 }
 
 // A State is the books of one member.
@@ -195,6 +196,7 @@ func (s *State) remove(index uint64, o *one, item *Item) (Answer, error) {
 	delete(s.books, item.Book)
 	s.mu.Unlock()
 	o.ended = index
+	close(o.removed)
 	o.close()
 	return answer, nil
 }
@@ -246,7 +248,7 @@ func (s *State) create(index uint64, o *one, item *Item) (Answer, error) {
 		return orNone(refused), err
 	}
 	made := &one{book: b, nodes: clone(item.Nodes), origin: origin, opens: 1, index: index, keys: map[string]kept{},
-		holders: map[fragment]holding{}, grown: make(chan struct{})}
+		holders: map[fragment]holding{}, grown: make(chan struct{}), removed: make(chan struct{})}
 	answer := Answer{Made: b.Made(), Opens: 1}
 	s.mu.Lock()
 	s.books[item.Book] = made
@@ -490,6 +492,9 @@ func (v *View) Entries(place uint64, most int) ([]book.Entry, error) {
 
 // Grown is closed at the next entry of the book, or when a snapshot takes its place.
 func (v *View) Grown() <-chan struct{} { return v.one.grown }
+
+// Removed is closed when the book is removed. One that is made under its name later is another one.
+func (v *View) Removed() <-chan struct{} { return v.one.removed }
 
 // A Holder is a worker who was granted a lease by name.
 type Holder struct {
