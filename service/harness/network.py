@@ -118,6 +118,7 @@ class Network:
 
     def __exit__(self, *_):
         for proxy in self.proxies:
+            proxy.listener.shutdown(socket.SHUT_RDWR)  # (else its thread waits for ever, and the port stays open)
             proxy.listener.close()
         self.reset(lambda link: True)
 
