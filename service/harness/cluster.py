@@ -84,9 +84,17 @@ class Member:
         return self.process is not None and self.process.poll() is None
 
     def kill(self):
-        if self.runs():
+        if self.process is not None:
             self.process.kill()
-        self.process.wait()
+            self.process.wait()
+
+    def ended(self, limit):
+        """The status with which it ends; None if it goes on for so many seconds, and then it is killed."""
+        try:
+            return self.process.wait(limit)
+        except subprocess.TimeoutExpired:
+            self.kill()
+            return None
 
     def stop(self):
         self.process.send_signal(signal.SIGSTOP)

@@ -133,15 +133,15 @@ def test_damage(count, program, room, nodes, times):
 def test_other_folders(count, program, room, nodes):
     """A folder of another number, or of another group, is refused and left as it is."""
     folder, asker = Folder(program, f"{room}/other", nodes), Asker(20)
-    member = folder.copy("copy")
     for what, number, words in (("number", 2, []), ("group", 1, ["--group", "other"])):
+        member = folder.copy(f"other-{what}")
         member.number = number
         member.start(*words)
-        is_refused = member.process.wait(60) == 1 and "the folder is that of another member, or of another group" in member.said()
+        is_refused = member.ended(60) == 1 and "the folder is that of another member, or of another group" in member.said()
         count.check(f"a folder of another {what} is refused: {member.said()[-300:]}", is_refused)
-    member.number = 1
-    try:
-        found = outcome(asker, member, folder.image)
-    finally:
-        member.kill()
-    count.check(f"the folder is as it was: {found}: {member.said()[-300:]}", found == "right")
+        member.number = 1
+        try:
+            found = outcome(asker, member, folder.image)
+        finally:
+            member.kill()
+        count.check(f"the folder is as it was: {found}: {member.said()[-300:]}", found == "right")

@@ -91,7 +91,7 @@ def test_one_member(count, program, room):
         images = [asker.ask(member.client, "GET", f"/books/{name.replace('_', '-')}/image")[2] for name in EXAMPLES]
         second = Member(group, 1, [])
         second.start()
-        is_refused = second.process.wait(10) == 1 and "another process has the folder" in second.said()
+        is_refused = second.ended(60) == 1 and "another process has the folder" in second.said()
         count.check(f"a second process on the folder ends: {second.said()}", is_refused)
         member.kill()
         member.start()
@@ -101,5 +101,5 @@ def test_one_member(count, program, room):
     finally:
         member.kill()
     words = [program, "--data", os.path.join(room, "far"), "--listen", "0.0.0.0:1"]
-    ran = subprocess.run(words, capture_output=True, text=True)
+    ran = subprocess.run(words, capture_output=True, text=True, timeout=60)
     count.check(f"a port beyond loopback: {ran.stderr}", ran.returncode == 2 and "--listen beyond loopback takes" in ran.stderr)

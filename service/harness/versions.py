@@ -1,10 +1,8 @@
 """A group goes from one version of the rules to the next, by members that are restarted with another program."""
-import time
-
 import harness
 import rules
 from cluster import Group
-from work import make_books
+from work import asked_for, make_books
 
 # The program with the tag `faulty` takes its library for one of the rules that this names.
 OLD, NEW = {"LRCMAND_RULES": "1"}, {"LRCMAND_RULES": "2"}
@@ -30,19 +28,9 @@ class Book:
 
     def compare(self, when):
         for member in self.group.members.values():
-            status, text = wait_for(lambda: self.group.asker.ask(member.client, "GET", "/books/p0/image?now=1")[::2])
+            status, text = asked_for(lambda: self.group.asker.ask(member.client, "GET", "/books/p0/image?now=1")[::2], [200])
             is_right = status == 200 and text.decode() == self.image()
             self.count.check(f"{when}: the image of member {member.number}: status {status}", is_right)
-
-
-def wait_for(ask, limit=60):
-    """What is answered, when its status is 200 or time is up."""
-    end = time.monotonic() + limit
-    answer = ask()
-    while answer[0] != 200 and time.monotonic() < end:
-        time.sleep(0.1)
-        answer = ask()
-    return answer
 
 
 def is_saved(group, member):
@@ -58,7 +46,7 @@ def test_versions(count, faulty, room, nodes):
         status, told = group.change("PUT", "/rules", {"rules": 2}, 60)
         count.check(f"the change is taken: {status} {told}", (status, told.get("group"), told.get("next")) == (200, 1, 2))
         for member in group.members.values():
-            status, told = wait_for(lambda: is_saved(group, member))
+            status, told = asked_for(lambda: is_saved(group, member), [200])
             count.check(f"member {member.number} has a snapshot of the change: {told}", status == 200)
             refused = group.asker.json(member.client, "POST", "/books/p0/call", {"command": "tick"})
             words = "the group goes from rules 1 to rules 2"
@@ -72,7 +60,7 @@ def test_versions(count, faulty, room, nodes):
         one.kill()
         group.env = OLD
         group.start(one)
-        is_named = one.process.wait(60) == 1 and "is of rules 2" in one.said()
+        is_named = one.ended(60) == 1 and "is of rules 2" in one.said()
         count.check(f"the program of before ends: {one.said()[-300:]}", is_named)
 
 
