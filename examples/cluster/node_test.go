@@ -92,6 +92,19 @@ func TestANodeThatStartsDeletesWhatIsHalfWrittenOrReplaced(t *testing.T) {
 	}
 }
 
+// change makes one byte of a file another one.
+func change(t *testing.T, file string) {
+	t.Helper()
+	text, err := os.ReadFile(file)
+	if err == nil {
+		text[5] ^= 4
+		err = os.WriteFile(file, text, 0o644)
+	}
+	if err != nil {
+		t.Fatal(err)
+	}
+}
+
 func TestADamagedFragmentIsNeitherWholeNorRead(t *testing.T) {
 	folder := t.TempDir()
 	server := httptest.NewServer(open(t, folder))
@@ -108,15 +121,7 @@ func TestADamagedFragmentIsNeitherWholeNorRead(t *testing.T) {
 	if err := nodes.Write(7, Name{1, 0, 1}, []byte("late")); err != errFenced {
 		t.Error(err)
 	}
-	file := filepath.Join(folder, "1.1.epoch2")
-	text, err := os.ReadFile(file)
-	if err == nil {
-		text[5] ^= 4
-		err = os.WriteFile(file, text, 0o644)
-	}
-	if err != nil {
-		t.Fatal(err)
-	}
+	change(t, filepath.Join(folder, "1.1.epoch2"))
 	found, failed := nodes.ReadAll(1, map[int]int{0: 7, 1: 7, 2: 7, 3: 7, 4: 8})
 	if len(found) != 2 || !bytes.Equal(found[2], full(2)) || !reflect.DeepEqual(failed, []int{1, 3, 4}) {
 		t.Error(len(found), failed)
