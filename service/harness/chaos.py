@@ -72,7 +72,7 @@ def chaos(program, folder, nodes, topology, seconds, seed, env=None, is_quiet=Fa
         work = Work(group, nodes, callers, lookers)
         work.begin()
         acts, end = Chaos(group, seed), time.monotonic() + seconds
-        while time.monotonic() < end:
+        while work.goes_on(end):
             time.sleep(acts.random.uniform(0.1, 0.7))
             run.faults += [f"member {it.number} ended by itself: {it.said()[-300:]}" for it in group.members.values()
                            if it.number not in acts.away and not it.runs()]
