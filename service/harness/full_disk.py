@@ -49,10 +49,11 @@ class SmallDisk:
 
 def fill_until_it_ends(disk, member, run, limit=120):
     """Fills the disk again and again, as the member frees room where it can, until it ends."""
+    disk.fill()
     end = time.monotonic() + limit
     while member.runs() and time.monotonic() < end:
-        disk.fill()
         time.sleep(0.05)
+        disk.fill()
     if member.runs():
         run.faults.append("the member goes on with a full disk")
     elif "no space left on device" not in member.said():
