@@ -197,8 +197,8 @@ func (n *Node) purgeLog(upTo uint64) error {
 		if first > upTo {
 			return nil
 		}
-		if err := os.Remove(names[i]); err != nil {
-			return err
+		if err := os.Remove(names[i]); err != nil && !errors.Is(err, os.ErrNotExist) {
+			return err // (it is gone where a snapshot of the leader came while one was written)
 		}
 		if err := syncFolder(n.logFolder()); err != nil {
 			return err
