@@ -56,7 +56,8 @@ func run(o *options, logger *log.Logger) int {
 		logger.Print(err)
 		return statusFault
 	}
-	f := &front.Front{Engine: node, State: books, Rights: o.rights, Rates: o.rates(), Timeout: o.timeout, Tick: o.tickTime(), Log: logger}
+	f := &front.Front{Engine: node, State: books, Rights: o.rights, Rates: o.rates(), Timeout: o.timeout, Tick: o.tickTime(),
+		Log: logger}
 	shown := newShown(node, books, o.data)
 	f.More = shown.more()
 	f.Start()

@@ -172,8 +172,8 @@ func homeless(code Code, homes *[Fragments]Home) uint16 {
 type counts map[string]int
 
 var statusNames = []string{"stripes", "whole", "at_risk_margin_2", "at_risk_margin_1", "at_risk_margin_0",
-	"unavailable", "lost", "missing_fragments", "homeless_fragments", "leases", "held_seats", "slots", "nodes_active", "nodes_draining", "nodes_gone",
-	"nodes_down", "nodes_online"}
+	"unavailable", "lost", "missing_fragments", "homeless_fragments", "leases", "held_seats", "slots",
+	"nodes_active", "nodes_draining", "nodes_gone", "nodes_down", "nodes_online"}
 
 func (c counts) stripe(row StripeRow, homeless uint16) {
 	c["stripes"]++
