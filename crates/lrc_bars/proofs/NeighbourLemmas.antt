@@ -1,8 +1,8 @@
 -- The domains of a stripe's homes side by side bar what its homes bar.
-use Rattle.std.proofs.Common.{[], ◌≡◌, ℕ, ◌<◌, inl, inr, Bool, true, false, not, ◌&&◌, ◌||◌, nat_eq, nat_lt, eqb, List, ◌∷◌, ◌++◌, get_or, Option, Some, None, is_some, IsSome, bit_and, arith, refl, sym, ap, ap₂, ◌∙◌}
+use Rattle.std.proofs.Common.{[], ◌≡◌, ℕ, ◌+◌, ◌<◌, inl, inr, Bool, true, false, not, ◌&&◌, ◌||◌, nat_eq, nat_lt, eqb, List, ◌∷◌, ◌++◌, length, take, get_or, Option, Some, None, is_some, IsSome, bit_and, arith, refl, sym, ap, ap₂, ◌∙◌}
 use Rattle.std.specs.List.{list_any}
 use Rattle.std.proofs.lemmas.Bool.{cases_Bool, cases_eq, eq-eqb, ne_eqb, lt-ltb}
-use Rattle.std.proofs.lemmas.List.Folds.{list_any-append, list_any_at, list_any_none}
+use Rattle.std.proofs.lemmas.List.Folds.{list_any-append, list_any_at, list_any_more, list_any_none}
 use Rattle.std.proofs.lemmas.Nat.Bits.{bit_at-zero}
 use Rattle.lrc_code.specs.declared.codes.Code.{Code}
 use Rattle.lrc_code.specs.declared.codes.Code.TheVariants.{Wide}
@@ -18,9 +18,9 @@ use Rattle.lrc_topology.specs.declared.seat.Seat.{Seat}
 use Rattle.lrc_topology.specs.declared.seat.Held.{Held}
 use Rattle.lrc_terms.proofs.LevelLemmas.{has_some-bits, has_some-none}
 use Rattle.lrc_homes.proofs.HomesLemmas.{both-bits}
-use Rattle.lrc_slots.specs.Barred.{joined}
+use Rattle.lrc_slots.specs.Barred.{Barred, joined, with_fault, with_upgrade}
 use Rattle.lrc_bars.specs.Ties.{bars_fault, bars_upgrade, bars_in, closed}
-use Rattle.lrc_bars.specs.Neighbouring.{stands_in, homes_bar}
+use Rattle.lrc_bars.specs.Neighbouring.{stands_in, homes_bar, with_home_fault, with_home_upgrade}
 use Rattle.lrc_bars.proofs.BarLemmas.{same_bars}
 use Rattle.lrc_bars.proofs.BesideLemmas.{held_if, held_all}
 use Rattle.lrc_bars.proofs.ClassBarLemmas.{closed-joined}
@@ -150,3 +150,46 @@ homes-beside nodes code s f upgrading homes targets =
 -- the other fragments of the stripe with a home, and those of them that are of the fragment's class
 pub members-both : (others class both : ℕ) (g : ℕ) (shares : Bool) → both ≡ bit_and others class → bits_set class g ≡ shares → bits_set both g ≡ (bits_set others g && shares)
 members-both others class both g shares is are = both-bits others class both g is ∙ ap (λ b. bits_set others g && b) are
+
+-- ---- the domains of the homes, one after the other
+
+module _ (b : Barred) (domains : List ℕ) (bits : ℕ) (f : Fragment) where
+  -- a fragment that is one of these is in the domain that is stored for it, and in no other
+  stands-there : (value number : ℕ) → value ≡ get_or domains f.value 0 → bits_set bits f.value ≡ true → nat_eq number value ≡ stands_in domains bits number f
+  stands-there value number is hit = rw hit (test-sym number value ∙ ap (λ (k : ℕ). nat_eq k number) is)
+
+  pub home-fault : (domain : FaultNo) → domain.value ≡ get_or domains f.value 0 → bits_set bits f.value ≡ true → with_fault b domain ≡ with_home_fault b domains bits f
+  home-fault domain is hit = same_bars (with_fault b domain) (with_home_fault b domains bits f)
+      (λ d. ap (λ (x : Bool). b.faults d || x) (stands-there domain.value d.value is hit)) (λ d. refl)
+
+  pub home-upgrade : (domain : UpgradeNo) → domain.value ≡ get_or domains f.value 0 → bits_set bits f.value ≡ true
+      → with_upgrade b domain ≡ with_home_upgrade b domains bits f
+  home-upgrade domain is hit = same_bars (with_upgrade b domain) (with_home_upgrade b domains bits f) (λ d. refl)
+      (λ d. ap (λ (x : Bool). b.upgrades d || x) (stands-there domain.value d.value is hit))
+
+module _ (b : Barred) (domains : List ℕ) (bits : ℕ) (f : Fragment) (off : bits_set bits f.value ≡ false) where
+  -- any other bars nothing
+  pub no-home-fault : b ≡ with_home_fault b domains bits f
+  no-home-fault = same_bars b (with_home_fault b domains bits f) (λ d. rw off (or-nothing (b.faults d))) (λ d. refl)
+
+  pub no-home-upgrade : b ≡ with_home_upgrade b domains bits f
+  no-home-upgrade = same_bars b (with_home_upgrade b domains bits f) (λ d. refl) (λ d. rw off (or-nothing (b.upgrades d)))
+
+or-or : (a b c : Bool) → ((a || b) || c) ≡ (a || (b || c))
+or-or true b c = refl
+or-or false b c = refl
+
+module _ (more : Barred) (faults upgrades : List ℕ) (others members : ℕ) where
+  -- with no fragment, only what else is barred
+  pub homes-none : more ≡ joined more (homes_bar faults upgrades others members [])
+  homes-none = same_bars more (joined more (homes_bar faults upgrades others members [])) (λ d. or-nothing (more.faults d)) (λ d. or-nothing (more.upgrades d))
+
+  -- one fragment more of a list that is gone through
+  pub homes-more : (fs : List Fragment) (i : ℕ) (d : Fragment) → i < length fs
+      → with_home_upgrade (with_home_fault (joined more (homes_bar faults upgrades others members (take i fs))) faults others (get_or fs i d)) upgrades members (get_or fs i d)
+      ≡ joined more (homes_bar faults upgrades others members (take (i + 1) fs))
+  homes-more fs i d within = same_bars _ (joined more (homes_bar faults upgrades others members (take (i + 1) fs)))
+      (λ n. or-or (more.faults n) (list_any (stands_in faults others n.value) (take i fs)) (stands_in faults others n.value (get_or fs i d))
+      ∙ ap (λ (x : Bool). more.faults n || x) (sym (list_any_more (stands_in faults others n.value) fs i d within)))
+      (λ n. or-or (more.upgrades n) (list_any (stands_in upgrades members n.value) (take i fs)) (stands_in upgrades members n.value (get_or fs i d))
+      ∙ ap (λ (x : Bool). more.upgrades n || x) (sym (list_any_more (stands_in upgrades members n.value) fs i d within)))

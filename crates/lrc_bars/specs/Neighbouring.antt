@@ -1,5 +1,5 @@
 -- What the homes beside a fragment bar, by the domains of their nodes, which are kept in a row for each stripe.
-use Rattle.std.specs.Prelude.{ℕ, Bool, ◌&&◌, nat_eq, List, get_or}
+use Rattle.std.specs.Prelude.{ℕ, Bool, ◌&&◌, ◌||◌, nat_eq, List, get_or}
 use Rattle.std.specs.List.{list_any}
 use Rattle.lrc_code.specs.declared.numbers.Fragment.{Fragment}
 use Rattle.lrc_code.specs.Losses.{bits_set}
@@ -21,3 +21,11 @@ homes_bar faults upgrades others members fs =
 -- the domains that the homes bar, and all else that is barred
 abbrev pub barred_by : Neighbours → Barred
 barred_by n = joined (barred n.more.now) (homes_bar n.homes.now.faults n.homes.now.upgrades n.others.bits n.members.bits (fragments Wide))
+
+-- what is barred, with the fault domain of a fragment's home, if the fragment is one of these
+abbrev pub with_home_fault : Barred → List ℕ → ℕ → Fragment → Barred
+with_home_fault b faults others f = record b { faults = λ d. b.faults d || stands_in faults others d.value f }
+
+-- the same with its upgrade domain
+abbrev pub with_home_upgrade : Barred → List ℕ → ℕ → Fragment → Barred
+with_home_upgrade b upgrades members f = record b { upgrades = λ d. b.upgrades d || stands_in upgrades members d.value f }

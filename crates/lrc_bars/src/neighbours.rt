@@ -3,11 +3,14 @@ ghost use Rattle.std.specs.List.{list_any};
 ghost use Rattle.lrc_code.specs.declared.codes.Code.TheVariants.{Wide};
 ghost use Rattle.lrc_code.specs.Codes.{fragments};
 ghost use Rattle.lrc_code.specs.Losses.{bits_set};
-ghost use Rattle.lrc_bars.specs.Neighbouring.{stands_in, homes_bar};
+ghost use Rattle.lrc_slots.specs.Barred.{Barred};
+ghost use Rattle.lrc_slots.specs.BarredNodes.{AreBarredNodes};
+ghost use Rattle.lrc_slots.specs.Tables.{slots_of};
+ghost use Rattle.lrc_bars.specs.Neighbouring.{stands_in, with_home_fault, with_home_upgrade};
 
-use lrc_code::LossMask;
+use lrc_code::{FaultNo, Fragment, LossMask, UpgradeNo};
 use lrc_homes::HomeDomains;
-use lrc_slots::{BarredDomains, Barring};
+use lrc_slots::{BarredDomains, BarredNodes, Barring, SlotTable};
 use lrc_topology::NodeInfo;
 
 /// The homes of the other fragments of a stripe, and what else bars nodes for a fragment.
@@ -31,6 +34,28 @@ impl<'a> Neighbours<'a> {
         meet(self.homes.in_fault(node.fault), self.others)
             || meet(self.homes.in_upgrade(node.upgrade), self.members)
     }
+
+    /// Adds the nodes of the fault domain of a fragment's home to the barred nodes, if it is one of the others.
+    fn bar_fault(&self, table: &SlotTable, barred_nodes: &mut BarredNodes, fragment: Fragment)
+        ensures { (b : Barred) → AreBarredNodes (slots_of table.now).nodes b barred_nodes.old
+            → AreBarredNodes (slots_of table.now).nodes (with_home_fault b self.now.homes.now.faults self.now.others.bits fragment) barred_nodes.new }
+    {
+        if self.others.contains(fragment) {
+            let domain = self.homes.faults[fragment.value as usize];
+            table.bar_fault_in(barred_nodes, FaultNo { value: domain });
+        }
+    }
+
+    /// Adds the nodes of the upgrade domain of a fragment's home to the barred nodes, if it is one of the members.
+    fn bar_upgrade(&self, table: &SlotTable, barred_nodes: &mut BarredNodes, fragment: Fragment)
+        ensures { (b : Barred) → AreBarredNodes (slots_of table.now).nodes b barred_nodes.old
+            → AreBarredNodes (slots_of table.now).nodes (with_home_upgrade b self.now.homes.now.upgrades self.now.members.bits fragment) barred_nodes.new }
+    {
+        if self.members.contains(fragment) {
+            let domain = self.homes.upgrades[fragment.value as usize];
+            table.bar_upgrade_in(barred_nodes, UpgradeNo { value: domain });
+        }
+    }
 }
 
 impl<'a> Barring for Neighbours<'a> {
@@ -40,6 +65,15 @@ impl<'a> Barring for Neighbours<'a> {
 
     fn bars(&self, node: &NodeInfo) -> bool {
         self.are_near(node) || self.more.bars(node)
+    }
+
+    fn nodes_in(&self, table: &SlotTable) -> BarredNodes {
+        let mut barred_nodes = self.more.nodes_in(table);
+        for fragment in Fragment::all().iter() {
+            self.bar_fault(table, &mut barred_nodes, *fragment);
+            self.bar_upgrade(table, &mut barred_nodes, *fragment);
+        }
+        barred_nodes
     }
 }
 

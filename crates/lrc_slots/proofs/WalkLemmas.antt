@@ -1,17 +1,16 @@
--- The row of a listed ordinal, and the first such row that is not barred.
-use Rattle.std.proofs.Common.{◌≡◌, ℕ, ◌+◌, ◌<◌, ◌≤◌, Bool, true, false, ◌&&◌, ◌||◌, eqb, List, length, get_or, map, filter, Option, Some, None, is_some, arith, refl, sym, ap, ◌∙◌, subst, inl, inr}
-use Rattle.std.proofs.lemmas.Bool.{cases_Bool, cases_eq, and_parts}
+-- The row of a listed ordinal.
+use Rattle.std.proofs.Common.{◌≡◌, ℕ, ◌<◌, Bool, true, false, ◌&&◌, ◌||◌, eqb, List, length, get_or, map, filter, Option, Some, None, is_some, arith, refl, sym, ap, ◌∙◌, subst}
+use Rattle.std.proofs.lemmas.Bool.{and_parts}
 use Rattle.std.proofs.lemmas.List.{get_or_default}
 use Rattle.std.specs.List.{Contains}
 use Rattle.lrc_code.specs.Order.{least}
 use Rattle.lrc_topology.specs.Nodes.{AreNodes}
-use Rattle.lrc_slots.specs.declared.load_key.LoadKey.{LoadKey}
 use Rattle.lrc_slots.specs.Barred.{Barred, no_bars}
 use Rattle.lrc_slots.specs.Slots.{least_free, taken_count}
 use Rattle.lrc_slots.specs.Next.{next_number}
 use Rattle.lrc_slots.specs.Tables.{Row, Table, slots_of}
 use Rattle.lrc_slots.specs.Rows.{alone, is_open, precedes}
-use Rattle.lrc_slots.specs.Indexes.{listed, is_listed, is_barred_at, no_row, AreOrdinals, Shows, IsFrom, IsFirstFrom, FindsFirst, IsLeastOutside}
+use Rattle.lrc_slots.specs.Indexes.{listed, is_listed, is_barred_at, no_row, AreOrdinals, Shows}
 use Rattle.lrc_slots.proofs.ChoiceLemmas.{next_number-rows}
 use Rattle.lrc_slots.proofs.IndexLemmas.{none-open, some-open}
 
@@ -53,48 +52,11 @@ module _ {rows : Table} {ordinals at : List ℕ} {loads : List (List Bool)} (h :
         pub read-room : is_some (least_free (alone r) r.node) ≡ true
         read-room = subst (λ (x : Row). is_some (least_free (alone x) x.node) ≡ true) (sym row-read) (row-room r)
 
-        -- it is barred exactly if the ordinal is
-        pub read-barred : (b : Barred) → is_barred_at rows at b ordinal ≡ (b.faults r.node.fault || b.upgrades r.node.upgrade)
-        read-barred b = ap (λ (x : Row). b.faults x.node.fault || b.upgrades x.node.upgrade)
-            (get_or_default rows (get_or at ordinal 0) no_row r position-within ∙ sym row-read)
-
   -- the ordinal of a row is barred exactly if the row is
   pub barred-at : (b : Barred) (i : ℕ) (d : Row) → i < length rows
       → is_barred_at rows at b (get_or ordinals i 0) ≡ (b.faults (get_or rows i d).node.fault || b.upgrades (get_or rows i d).node.upgrade)
   barred-at b i d within = ap (λ (x : Row). b.faults x.node.fault || b.upgrades x.node.upgrade)
       (ap (λ p. get_or rows p no_row) (h.back i within) ∙ get_or_default rows i no_row d within)
-
-  module _ (b : Barred) (from : LoadKey)
-      (passed : (load ordinal : ℕ) → listed loads load ordinal ≡ true → is_barred_at rows at b ordinal ≡ false → IsFrom from.load from.ordinal load ordinal) where
-    -- if all earlier keys are barred, the first one that is not is the least
-    pub walked : (key : LoadKey) → IsFirstFrom loads from key → is_barred_at rows at b key.ordinal ≡ false
-        → IsLeastOutside loads (is_barred_at rows at b) key.load key.ordinal
-    walked key found free =
-        record { here = found.here; free = free; first = λ other r hit free. found.first other r hit (passed other r hit free) }
-
-    -- and if no key is left, all are barred
-    pub walked-none : FindsFirst loads from None → (load ordinal : ℕ) → listed loads load ordinal ≡ true → is_barred_at rows at b ordinal ≡ true
-    walked-none none load ordinal hit = elim (cases_Bool (is_barred_at rows at b ordinal)) [
-      | inl bars ↦ bars
-      | inr miss ↦ absurd (none load ordinal hit (passed load ordinal hit miss))
-    ]
-
--- if a load lists no ordinal from the key on, the next key has a higher load
-pub first-past : (sets : List (List Bool)) (from : LoadKey) → ((ordinal : ℕ) → from.ordinal ≤ ordinal → listed sets from.load ordinal ≡ false)
-    → (o : Option LoadKey) → FindsFirst sets (record { load = from.load + 1; ordinal = 0 }) o → FindsFirst sets from o
-first-past sets from none = go where
-  above : (load ordinal : ℕ) → listed sets load ordinal ≡ true → IsFrom from.load from.ordinal load ordinal → IsFrom (from.load + 1) 0 load ordinal
-  above load ordinal hit (inl more) = elim (cases_eq (from.load + 1) load) [
-    | inl same ↦ inr (same, omega arith)
-    | inr other ↦ inl (omega (arith, more, other))
-  ]
-  above load ordinal hit (inr here) = absurd (
-      let miss : listed sets load ordinal ≡ false = subst (λ l. listed sets l ordinal ≡ false) here.0 (none ordinal here.1) in
-      let clash : true ≡ false = sym hit ∙ miss in cc)
-
-  go : (o : Option LoadKey) → FindsFirst sets (record { load = from.load + 1; ordinal = 0 }) o → FindsFirst sets from o
-  go None past = λ load ordinal hit behind. past load ordinal hit (above load ordinal hit behind)
-  go (Some key) past = record { here = past.here; first = λ load ordinal hit behind. past.first load ordinal hit (above load ordinal hit behind) }
 
 -- some node gets a seat if an ordinal is listed
 pub open-known : (rows : Table) {ordinals at : List ℕ} {loads : List (List Bool)} → AreNodes (map (λ r. r.node) rows)

@@ -9,7 +9,6 @@ use Rattle.lrc_topology.specs.Nodes.{AreNodes}
 use Rattle.lrc_slots.specs.Slots.{least_free, taken_count}
 use Rattle.lrc_slots.specs.Barred.{Barred}
 use Rattle.lrc_slots.specs.declared.listing.Listing.{Listing}
-use Rattle.lrc_slots.specs.declared.load_key.LoadKey.{LoadKey}
 use Rattle.lrc_slots.specs.Tables.{Row, Table}
 use Rattle.lrc_slots.specs.Rows.{alone, row_load}
 use Rattle.lrc_slots.specs.BarredNodes.{ordinal_of}
@@ -29,16 +28,6 @@ pub record AreSets (sets : List (List Bool)) (used : List Bool) : Type 0 where
 -- the second pair of load and ordinal is the first one or comes later
 abbrev pub IsFrom : ℕ → ℕ → ℕ → ℕ → Type 0
 IsFrom load ordinal other r = (load < other) ⊎ ((load ≡ other) × (ordinal ≤ r))
-
--- the key is the first one listed, from `from` on
-pub record IsFirstFrom (sets : List (List Bool)) (from key : LoadKey) : Type 0 where
-  pub here : listed sets key.load key.ordinal ≡ true
-  pub first : (load ordinal : ℕ) → listed sets load ordinal ≡ true → IsFrom from.load from.ordinal load ordinal → IsFrom key.load key.ordinal load ordinal
-
--- what a search for this key returns
-abbrev pub FindsFirst : List (List Bool) → LoadKey → Option LoadKey → Type 0
-FindsFirst sets from None = (load ordinal : ℕ) → listed sets load ordinal ≡ true → ¬ IsFrom from.load from.ordinal load ordinal
-FindsFirst sets from (Some key) = IsFirstFrom sets from key
 
 -- the pair of load and ordinal is the first one listed whose ordinal is not barred
 pub record IsLeastOutside (sets : List (List Bool)) (bars : ℕ → Bool) (load ordinal : ℕ) : Type 0 where

@@ -4,7 +4,7 @@ ghost use Rattle.lrc_slots.specs.Barred.{no_bars, with_fault, with_upgrade};
 ghost use Rattle.lrc_slots.specs.Tables.{barred};
 
 use crate::ordinal_sets::OrdinalSets;
-use crate::{BarredNodes, Barring};
+use crate::{BarredNodes, Barring, SlotTable};
 use lrc_bits::BitSet;
 use lrc_code::{FaultNo, UpgradeNo};
 use lrc_topology::NodeInfo;
@@ -73,5 +73,9 @@ impl Barring for BarredDomains {
     fn bars(&self, node: &NodeInfo) -> bool {
         self.faults.contains(node.fault.value as usize)
             || self.upgrades.contains(node.upgrade.value as usize)
+    }
+
+    fn nodes_in(&self, table: &SlotTable) -> BarredNodes {
+        self.nodes(&table.by_fault, &table.by_upgrade)
     }
 }

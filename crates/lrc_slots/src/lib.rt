@@ -6,7 +6,6 @@ mod barred_nodes;
 mod barring;
 pub mod laws;
 mod listing;
-mod load_key;
 mod node_slots;
 mod open_node;
 mod ordinal_set;

@@ -1,5 +1,4 @@
 ghost use Rattle.std.specs.Prelude.{◌≡◌, ℕ, ◌+◌, ◌*◌, ◌/◌, ◌<◌, true, false, length, get_or, replicate, IsTrue, IsFalse, slice_set};
-ghost use Rattle.lrc_bits.specs.Flags.{FindsFrom, IsFirstFrom};
 ghost use Rattle.lrc_slots.specs.OrdinalWords.{FindsOutsideBoth};
 
 use lrc_bits::BitSet;
@@ -71,28 +70,6 @@ impl OrdinalSet {
         }
         self.words.remove(ordinal / 64);
         self.words.first().is_none()
-    }
-
-    /// Returns the lowest ordinal. The set must have one.
-    #[inline(always)]
-    pub(crate) fn first(&self) -> usize
-        requires { (r : ℕ) × (get_or self.now r false ≡ true) }
-        ensures { IsFirstFrom self.now 0 result }
-    {
-        let word = self.words.first_of_word(0);
-        self.ordinals.first_of_word(word)
-    }
-
-    /// Returns the lowest ordinal from `from` on.
-    #[inline(always)]
-    pub(crate) fn first_from(&self, from: usize) -> Option<usize>
-        ensures { FindsFrom self.now from result }
-    {
-        if let Some(ordinal) = self.ordinals.first_near(from) {
-            return Some(ordinal);
-        }
-        let word = self.words.first_from(from / 64 + 1)?;
-        Some(self.ordinals.first_of_word(word))
     }
 
     /// Returns the lowest ordinal that is in neither mask. Skips words without an ordinal.

@@ -1,8 +1,7 @@
-ghost use Rattle.std.specs.Prelude.{◌≡◌, ℕ, ◌+◌, ◌<◌, ◌≤◌, ◌||◌, ◌&&◌, ◌⊎◌, if◌then◌else◌, nat_eq, not, true, false, length, get_or, IfOk, IfSome, IsTrue, IsFalse};
-ghost use Rattle.lrc_slots.specs.Indexes.{listed, same_key, is_listing_of, IsFrom, FindsFirst, FindsLeast, is_of_either};
+ghost use Rattle.std.specs.Prelude.{◌≡◌, ℕ, ◌+◌, ◌<◌, ◌≤◌, ◌||◌, ◌&&◌, ◌⊎◌, if◌then◌else◌, nat_eq, not, true, false, length, get_or, IfOk, IsTrue, IsFalse};
+ghost use Rattle.lrc_slots.specs.Indexes.{listed, same_key, is_listing_of, FindsLeast, is_of_either};
 
 use crate::listing::Listing;
-use crate::load_key::LoadKey;
 use crate::ordinal_set::OrdinalSet;
 use lrc_bits::{BitSet, Members};
 use std::alloc::{AllocError, Global};
@@ -115,36 +114,6 @@ impl OrdinalSets {
             from = load + 1;
         }
         None
-    }
-
-    /// Returns the first listed key from `from` on.
-    pub(crate) fn first_from(&self, from: LoadKey) -> Option<LoadKey>
-        requires { from.load < 256 }
-        ensures first { FindsFirst self.now from result }
-        ensures within { IfSome result (λ s. s.load < 256) }
-        ensures onward { IfSome result (λ s. IsFrom from.load from.ordinal s.load s.ordinal) }
-    {
-        let set = &self.sets[from.load];
-        if let Some(ordinal) = set.first_from(from.ordinal) {
-            return Some(LoadKey {
-                load: from.load,
-                ordinal,
-            });
-        }
-        self.first_above(from.load)
-    }
-
-    /// Returns the first listed key with a load above `least`.
-    #[inline(always)]
-    fn first_above(&self, least: usize) -> Option<LoadKey>
-        requires { least < 256 }
-        ensures first { FindsFirst self.now (record { load = least + 1; ordinal = 0 }) result }
-        ensures within { IfSome result (λ s. s.load < 256) }
-        ensures onward { IfSome result (λ s. least < s.load) }
-    {
-        let load = self.used.first_from(least + 1)?;
-        let ordinal = self.sets[load].first();
-        Some(LoadKey { load, ordinal })
     }
 
     /// Returns an iterator over the keys with a node.

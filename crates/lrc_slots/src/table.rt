@@ -257,21 +257,11 @@ impl SlotTable {
     }
 
     /// Returns the node that `choose` returns, and its lowest free slot.
-    pub fn open_beside(&self, bars: &BarredDomains) -> Option<OpenNode>
-        ensures node { option_map (λ o. o.node) result ≡ next_node (slots_of self.now) (barred bars.now) }
-        ensures slot { IfSome result (λ o. least_free_at (slots_of self.now) o.node.number ≡ Some o.slot) }
-    {
-        let row = self.first_beside(bars)?;
-        Some(row.open())
-    }
-
-    /// Returns the node that `choose` returns for the domains that `bars` tests, and its lowest free slot. Tests
-    /// nodes one by one.
-    pub fn open_beside_each<B: Barring>(&self, bars: &B) -> Option<OpenNode>
+    pub fn open_beside<B: Barring>(&self, bars: &B) -> Option<OpenNode>
         ensures node { option_map (λ o. o.node) result ≡ next_node (slots_of self.now) (B.barred bars.now) }
         ensures slot { IfSome result (λ o. least_free_at (slots_of self.now) o.node.number ≡ Some o.slot) }
     {
-        let row = self.first_beside_each(bars)?;
+        let row = self.first_beside(bars)?;
         Some(row.open())
     }
 

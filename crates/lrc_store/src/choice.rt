@@ -114,7 +114,7 @@ impl Store {
     fn next_beside(&self, neighbours: &Neighbours<'_>) -> Option<Seat>
         ensures { result ≡ next_seat (slots_of self.now.table) (barred_by neighbours.now) }
     {
-        let next = self.table.open_beside_each(neighbours)?;
+        let next = self.table.open_beside(neighbours)?;
         Some(Seat {
             node: next.node.number,
             slot: next.slot,

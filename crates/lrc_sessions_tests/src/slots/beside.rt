@@ -75,7 +75,6 @@ fn choose_alike(table: &SlotTable, plain: &PlainTable, bars: &Bars) -> bool {
     let open = plain.open(chosen);
     table.choose(&bars.taken) == chosen
         && table.open_beside(&bars.taken) == open
-        && table.open_beside_each(&bars.taken) == open
         && open_outside(table, bars) == open
         && table.has_open_node() == plain.has_open_node()
 }

@@ -7,4 +7,4 @@ use Rattle.lrc_store.proofs.store.Store.next_beside.Goals as goal
 pub returns : goal.returns
 returns c =
     ap (option_map open_seat) (sym c.in_ok-next.was)
-    ∙ open-next (slots_of c.args.self.now.table) (barred_by c.args.neighbours.now) c.open_beside_each.result c.open_beside_each.ensures.node c.open_beside_each.ensures.slot
+    ∙ open-next (slots_of c.args.self.now.table) (barred_by c.args.neighbours.now) c.open_beside.result c.open_beside.ensures.node c.open_beside.ensures.slot
