@@ -72,13 +72,6 @@ node-upgrades true b n d = refl
 node-upgrades false b n d = or_none (b.upgrades d)
 
 module _ (nodes : List NodeInfo) (code : Code) (s : StripeNo) (f g : Fragment) (b : Barred) where
-  -- a seat of the fragment itself bars nothing
-  pub seat-own : (o : Option Seat) → eqb g.value f.value ≡ true → b ≡ with_seat nodes code s f b g o
-  seat-own None own = refl
-  seat-own (Some seat) own = same_bars b (with_seat nodes code s f b g (Some seat))
-      (λ d. rw (eq-eqb s.value s.value refl, own) (or_none (b.faults d)))
-      (λ d. rw (eq-eqb s.value s.value refl, own) (or_none (b.upgrades d)))
-
   -- a seat of another fragment bars the domains of its node
   pub seat-barred : (o : Option Seat) (n : NodeInfo) → option_and_then (λ (x : Seat). node_at nodes x.node) o ≡ Some n → eqb g.value f.value ≡ false
       → with_node (share_class code f g) b n ≡ with_seat nodes code s f b g o

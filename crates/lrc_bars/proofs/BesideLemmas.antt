@@ -1,8 +1,7 @@
 -- The seats of a stripe's fragments, gathered fragment by fragment: the home of each, and its lease's target.
-use Rattle.std.proofs.Common.{[], ◌≡◌, ℕ, ◌+◌, ◌<◌, eqb, List, ◌∷◌, ◌++◌, map, length, take, get_or, Option, Some, None, option_map, refl, sym, ap, ◌∙◌, subst, inl, inr, append_assoc, append-nil}
+use Rattle.std.proofs.Common.{[], ◌≡◌, Bool, true, false, not, eqb, List, ◌∷◌, ◌++◌, map, Option, Some, None, option_map, refl, sym, ap, ◌∙◌, subst, inl, inr}
 use Rattle.std.specs.List.{Contains}
 use Rattle.std.proofs.lemmas.Bool.{eqb-true, and_parts}
-use Rattle.std.proofs.lemmas.List.{take_more}
 use Rattle.std.proofs.lemmas.List.Elements.{Contains-append_left, Contains-append_right, Contains-append_cases}
 use Rattle.lrc_code.specs.declared.codes.Code.{Code}
 use Rattle.lrc_code.specs.declared.codes.Code.TheVariants.{Wide}
@@ -18,12 +17,17 @@ use Rattle.lrc_terms.specs.declared.lease.Lease.{Lease}
 use Rattle.lrc_terms.proofs.LeaseLemmas.{leases_in-own, leases_in-contains, contains-leases_in}
 use Rattle.lrc_rules.specs.States.{State, held_by, lease_of}
 use Rattle.lrc_rules.specs.Goodness.{AreSeated}
+use Rattle.lrc_rules.specs.Placement.{is_beside}
 use Rattle.lrc_bars.specs.Ties.{bars_in, with_seat}
 use Rattle.lrc_rules.proofs.MemberLemmas.{Contains-here, Contains-cases, not-Contains-nil, map-member}
 use Rattle.lrc_rules.proofs.TakenLemmas.{member-map}
 use Rattle.lrc_bars.proofs.FragmentListLemmas.{all-fragments}
 use Rattle.lrc_bars.proofs.BarLemmas.{bars_in-push, bars_in-same}
 use Rattle.lrc_rules.proofs.LookUpLemmas.{home-only, found-home}
+
+not_true : (b : Bool) → not b ≡ true → b ≡ false
+not_true false is = refl
+not_true true is = absurd cc
 
 -- a fragment's seat, if it has one
 abbrev pub held_if : StripeNo → Fragment → Option Seat → List Held
@@ -43,12 +47,6 @@ abbrev pub target_at : State → StripeNo → Fragment → Option Seat
 target_at st s f = option_map (λ (l : Lease). l.target) (lease_of st s f)
 
 module _ (s : StripeNo) (seats : Fragment → Option Seat) where
-  held_all-append : (fs gs : List Fragment) → held_all s seats (fs ++ gs) ≡ held_all s seats fs ++ held_all s seats gs
-  held_all-append [] gs = refl
-  held_all-append (f ∷ fs) gs =
-      ap (λ (hs : List Held). held_if s f (seats f) ++ hs) (held_all-append fs gs)
-      ∙ sym (append_assoc (held_if s f (seats f)) (held_all s seats fs) (held_all s seats gs))
-
   -- where no fragment has a seat, there are none
   pub held_all-none : ((f : Fragment) → seats f ≡ None) → (fs : List Fragment) → held_all s seats fs ≡ []
   held_all-none none [] = refl
@@ -72,25 +70,91 @@ module _ (s : StripeNo) (seats : Fragment → Option Seat) where
     | inr more ↦ Contains-append_right (held_if s g (seats g)) (held_all s seats gs) h (own-held gs f more h here)
   ]
 
-  module _ (nodes : List NodeInfo) (code : Code) (f : Fragment) (before : List Held) where
-    -- what one more seat bars, if there is one
-    seat-barred : (g : Fragment) (hs : List Held) (o : Option Seat)
-        → with_seat nodes code s f (bars_in nodes code s f hs) g o ≡ bars_in nodes code s f (hs ++ held_if s g o)
-    seat-barred g hs None = ap (bars_in nodes code s f) (sym (append-nil hs))
-    seat-barred g hs (Some seat) = bars_in-push nodes code s f hs (record { stripe = s; fragment = g; seat = seat })
+  -- and each is that of some fragment
+  held-from : (fs : List Fragment) (h : Held) → Contains (held_all s seats fs) h → (f : Fragment) × Contains (held_if s f (seats f)) h
+  held-from [] h here = absurd (not-Contains-nil h here)
+  held-from (f ∷ fs) h here = elim (Contains-append_cases (held_if s f (seats f)) (held_all s seats fs) h here) [
+    | inl first ↦ (f, first)
+    | inr later ↦ held-from fs h later
+  ]
 
-    -- one fragment more of a list that is gone through
-    pub held_all-more : (fs : List Fragment) (i : ℕ) (d : Fragment) → i < length fs
-        → with_seat nodes code s f (bars_in nodes code s f (before ++ held_all s seats (take i fs))) (get_or fs i d) (seats (get_or fs i d))
-        ≡ bars_in nodes code s f (before ++ held_all s seats (take (i + 1) fs))
-    held_all-more fs i d within =
-        let g = get_or fs i d in
-        let so_far = held_all s seats (take i fs) in
-        let one = held_if s g (seats g) in
-        seat-barred g (before ++ so_far) (seats g)
-        ∙ ap (bars_in nodes code s f) (append_assoc before so_far one ∙ ap (λ (hs : List Held). before ++ hs)
-        (ap (λ (hs : List Held). so_far ++ hs) (sym (append-nil one))
-        ∙ sym (ap (held_all s seats) (take_more fs i d within) ∙ held_all-append (take i fs) (g ∷ []))))
+module _ (nodes : List NodeInfo) (code : Code) (s : StripeNo) (f : Fragment) (before : List Held) (xs ys : Fragment → Option Seat) where
+  own-first : (h : Held) → Contains before h → Contains (before ++ held_all s ys (fragments Wide)) h
+  own-first h here = Contains-append_left before (held_all s ys (fragments Wide)) h here
+
+  own-later : (g : Fragment) (h : Held) → Contains (held_if s g (ys g)) h → Contains (before ++ held_all s ys (fragments Wide)) h
+  own-later g h here = Contains-append_right before (held_all s ys (fragments Wide)) h (own-held s ys (fragments Wide) g (all-fragments g) h here)
+
+  -- seats that are the same for all other fragments are there too
+  other-seats : ((g : Fragment) → eqb g.value f.value ≡ false → xs g ≡ ys g) → (h : Held) → is_beside s f h ≡ true
+      → Contains (before ++ held_all s xs (fragments Wide)) h → Contains (before ++ held_all s ys (fragments Wide)) h
+  other-seats same h beside here = elim (Contains-append_cases before (held_all s xs (fragments Wide)) h here) [
+    | inl first ↦ own-first h first
+    | inr later ↦
+        let (g, one) = held-from s xs (fragments Wide) h later in
+        own-later g h (subst (λ (o : Option Seat). Contains (held_if s g o) h) (same g (apart g (xs g) one)) one)
+  ]
+    where
+      apart : (g : Fragment) (o : Option Seat) → Contains (held_if s g o) h → eqb g.value f.value ≡ false
+      apart g None one = absurd (not-Contains-nil h one)
+      apart g (Some seat) one = elim (Contains-cases (record { stripe = s; fragment = g; seat = seat }) h [] one) [
+        | inr none ↦ absurd (not-Contains-nil h none)
+        | inl same ↦ not_true (eqb g.value f.value) (and_parts (eqb s.value s.value) (not (eqb g.value f.value)) (ap (is_beside s f) same ∙ beside)).1
+      ]
+
+module _ (nodes : List NodeInfo) (code : Code) (s : StripeNo) (f : Fragment) (before : List Held) (xs ys : Fragment → Option Seat) where
+  -- a seat of the fragment itself bars nothing
+  pub held_all-besides : ((g : Fragment) → eqb g.value f.value ≡ false → xs g ≡ ys g)
+      → bars_in nodes code s f (before ++ held_all s xs (fragments Wide)) ≡ bars_in nodes code s f (before ++ held_all s ys (fragments Wide))
+  held_all-besides same =
+      bars_in-same nodes code s f (before ++ held_all s xs (fragments Wide)) (before ++ held_all s ys (fragments Wide)) (λ h beside. (
+        other-seats nodes code s f before xs ys same h beside,
+        other-seats nodes code s f before ys xs (λ g other. sym (same g other)) h beside,
+      ))
+
+  module _ (g : Fragment) (seat : Seat) (none : xs g ≡ None) (one : ys g ≡ Some seat) (same : (h : Fragment) → eqb h.value g.value ≡ false → ys h ≡ xs h) where
+    abbrev new : Held
+    new = record { stripe = s; fragment = g; seat = seat }
+
+    -- a seat that was there is there still
+    kept : (h : Held) → Contains (before ++ held_all s xs (fragments Wide)) h → Contains (before ++ held_all s ys (fragments Wide)) h
+    kept h here = elim (Contains-append_cases before (held_all s xs (fragments Wide)) h here) [
+      | inl first ↦ own-first nodes code s f before xs ys h first
+      | inr later ↦ let (q, it) = held-from s xs (fragments Wide) h later in own-later nodes code s f before xs ys q h (moved q it (eqb q.value g.value) refl)
+    ]
+      where
+        moved : (q : Fragment) → Contains (held_if s q (xs q)) h → (b : Bool) → eqb q.value g.value ≡ b → Contains (held_if s q (ys q)) h
+        moved q it false other = subst (λ (o : Option Seat). Contains (held_if s q o) h) (sym (same q other)) it
+        moved q it true own = absurd (not-Contains-nil h (subst (λ (o : Option Seat). Contains (held_if s q o) h)
+            (ap xs (equal_fragments q g (eqb-true q.value g.value own)) ∙ none) it))
+
+    -- and none is new but the one
+    only : (h : Held) → Contains (before ++ held_all s ys (fragments Wide)) h → Contains ((before ++ held_all s xs (fragments Wide)) ++ new ∷ []) h
+    only h here = elim (Contains-append_cases before (held_all s ys (fragments Wide)) h here) [
+      | inl first ↦ Contains-append_left (before ++ held_all s xs (fragments Wide)) (new ∷ []) h (own-first nodes code s f before ys xs h first)
+      | inr later ↦ let (q, it) = held-from s ys (fragments Wide) h later in moved q it (eqb q.value g.value) refl
+    ]
+      where
+        moved : (q : Fragment) → Contains (held_if s q (ys q)) h → (b : Bool) → eqb q.value g.value ≡ b → Contains ((before ++ held_all s xs (fragments Wide)) ++ new ∷ []) h
+        moved q it false other = Contains-append_left (before ++ held_all s xs (fragments Wide)) (new ∷ []) h
+            (own-later nodes code s f before ys xs q h (subst (λ (o : Option Seat). Contains (held_if s q o) h) (same q other) it))
+        moved q it true own =
+            let here = equal_fragments q g (eqb-true q.value g.value own) in
+            Contains-append_right (before ++ held_all s xs (fragments Wide)) (new ∷ []) h
+            (subst (λ (o : Option Seat). Contains (held_if s g o) h) one (subst (λ (p : Fragment). Contains (held_if s p (ys p)) h) here it))
+
+    -- one seat more
+    pub held_all-one : with_seat nodes code s f (bars_in nodes code s f (before ++ held_all s xs (fragments Wide))) g (Some seat)
+        ≡ bars_in nodes code s f (before ++ held_all s ys (fragments Wide))
+    held_all-one =
+        bars_in-push nodes code s f (before ++ held_all s xs (fragments Wide)) new
+        ∙ bars_in-same nodes code s f ((before ++ held_all s xs (fragments Wide)) ++ new ∷ []) (before ++ held_all s ys (fragments Wide)) (λ h beside. (
+          λ here. elim (Contains-append_cases (before ++ held_all s xs (fragments Wide)) (new ∷ []) h here) [
+            | inl old ↦ kept h old
+            | inr last ↦ own-later nodes code s f before xs ys g h (subst (λ (o : Option Seat). Contains (held_if s g o) h) (sym one) last)
+          ],
+          only h,
+        ))
 
 -- lists with the same seats of the stripe bar the same beside others
 bars-beside : (nodes : List NodeInfo) (code : Code) (s : StripeNo) (f : Fragment) (before xs ys : List Held)

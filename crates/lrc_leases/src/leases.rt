@@ -1,4 +1,4 @@
-ghost use Rattle.std.specs.Prelude.{◌≡◌, ◌≤◌, length, ℕ, IfOk, IfErr, IfSome, IfNone, OnErr, OnOk, IsOk, IsTrue, Some, None};
+ghost use Rattle.std.specs.Prelude.{◌≡◌, ◌≤◌, length, ℕ, IfOk, IfErr, IfSome, IfNone, OnErr, OnOk, IsOk, IsTrue, Some, None, option_map};
 ghost use Rattle.lrc_code.specs.declared.fault.Fault.TheVariants.{OutOfMemory};
 ghost use Rattle.lrc_code.specs.Losses.{bits_set};
 ghost use Rattle.lrc_terms.specs.Leased.{empty, with_lease, without_lease, with_spare, leased_at, ends_at, AreTargetsOn, AreThose};
@@ -13,6 +13,7 @@ use crate::spot::{SPOTS, spot_of};
 use crate::targets_on::node_chain;
 use crate::{EndingAt, Lease, TargetsOn};
 use lrc_code::{Fault, Fragment, LossMask, NodeNo, StripeNo};
+use lrc_topology::Seat;
 use slab::Slab;
 use std::alloc::Global;
 use std::marker::Model;
@@ -102,6 +103,15 @@ impl Leases {
         }
         let key = key_of(&self.slab, &self.keys, stripe, fragment);
         self.slab.get(key).copied()
+    }
+
+    /// The target of the lease of a fragment that has one.
+    pub fn target(&self, stripe: StripeNo, fragment: Fragment) -> Seat
+        requires { IsTrue (leased_at (leased_in self.now) stripe fragment.value) }
+        ensures { option_map (λ l. l.target) ((leased_in self.now).leases stripe fragment.value) ≡ Some result }
+    {
+        let key = key_of(&self.slab, &self.keys, stripe, fragment);
+        self.slab[key].target
     }
 
     /// The fragments of a stripe that have a lease.

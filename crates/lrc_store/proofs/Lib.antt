@@ -15,6 +15,7 @@ pub mod PlacingLemmas
 pub mod ShownLemmas
 pub mod EndLemmas
 pub mod KnownSeatLemmas
+pub mod TargetLemmas
 pub mod LeaseToldLemmas
 pub mod RepairLemmas
 pub mod LeaseReplyLemmas

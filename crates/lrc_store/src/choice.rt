@@ -1,20 +1,17 @@
 //! The choice of a seat, from the slot table and the seats of the stripe's other fragments.
 
-ghost use Rattle.std.specs.Prelude.{◌≡◌, ◌++◌, ◌∷◌, [], true, false, IsTrue, IfSome, IsSome, List, Some, None, map, option_map, is_some};
+ghost use Rattle.std.specs.Prelude.{◌≡◌, ◌++◌, ◌∷◌, [], true, false, IsTrue, IfSome, IsSome, List, Some, None, map, option_map, is_some, nat_eq};
 ghost use Rattle.std.specs.List.{All, list_any};
 ghost use Rattle.lrc_code.specs.declared.codes.Code.{Code as AnyCode};
 ghost use Rattle.lrc_code.specs.declared.numbers.StripeNo.{StripeNo};
 ghost use Rattle.lrc_code.specs.declared.numbers.Fragment.{Fragment};
 ghost use Rattle.lrc_code.specs.Codes.{class_of};
-ghost use Rattle.lrc_code.specs.Losses.{bits_set};
 ghost use Rattle.lrc_topology.specs.declared.seat.Held.{Held};
 ghost use Rattle.lrc_topology.specs.Nodes.{node_at};
 ghost use Rattle.lrc_slots.specs.Barred.{no_bars, joined};
 ghost use Rattle.lrc_slots.specs.Next.{next_number};
 ghost use Rattle.lrc_slots.specs.Tables.{slots_of, barred};
 ghost use Rattle.lrc_stripes.specs.Tables.{stored_in};
-ghost use Rattle.lrc_terms.specs.Leased.{leased_at};
-ghost use Rattle.lrc_leases.specs.Tables.{leased_in};
 ghost use Rattle.lrc_rules.specs.States.{State, has_stripe, held_by, seats_of};
 ghost use Rattle.lrc_rules.specs.Placement.{chosen, bars, is_beside};
 ghost use Rattle.lrc_rules.specs.Steps.{with_stripe};
@@ -28,6 +25,7 @@ use lrc_bars::{ClassBars, Neighbours};
 use lrc_code::{Class, Code, Fragment, LossMask, StripeNo};
 use lrc_rules::Seat;
 use lrc_slots::{BarredDomains, Barring, OpenRow};
+use lrc_stripes::first_fragment;
 use lrc_topology::NodeInfo;
 
 impl Store {
@@ -160,51 +158,26 @@ impl Store {
             → barred bars.old ≡ bars_in self.now.topology code stripe fragment seats
             → barred bars.new ≡ bars_in self.now.topology code stripe fragment (seats ++ map held_by st.leases) }
     {
-        let leased = self.leases.leased(stripe);
-        if leased.bits() == 0 {
-            return;
+        let mut left = self.leases.leased(stripe).without(fragment);
+        while let Some(other) = first_fragment(left) {
+            left = left.without(other);
+            let target = self.leases.target(stripe, other);
+            self.bar_seat(bars, members, other, target);
         }
-        for other in Fragment::all().iter() {
-            let target = self.target(leased, stripe, *other);
-            self.bar_seat(bars, fragment, members, *other, target);
-        }
-    }
-
-    /// The target of a fragment's lease, if it has one. `leased` are the leased fragments of its stripe.
-    fn target(&self, leased: LossMask, stripe: StripeNo, fragment: Fragment) -> Option<Seat>
-        requires { bits_set leased.bits fragment.value ≡ leased_at (leased_in self.now.leases) stripe fragment.value }
-        ensures { result ≡ option_map (λ l. l.target) ((leased_in self.now.leases).leases stripe fragment.value) }
-    {
-        if !leased.contains(fragment) {
-            return None;
-        }
-        let lease = self.leases.lease(stripe, fragment)?;
-        Some(lease.target)
     }
 
     /// Bars the domains of the seat of another fragment: its fault domain, and its upgrade domain if that fragment is one of
-    /// `members`, the class of `fragment`. The node must be one of the store's.
-    fn bar_seat(
-        &self,
-        bars: &mut BarredDomains,
-        fragment: Fragment,
-        members: LossMask,
-        other: Fragment,
-        seat: Option<Seat>,
-    )
-        requires known { IfSome seat (λ s. IsSome (node_at (slots_of self.now.table).nodes s.node)) }
-        ensures { (st : State) (code : AnyCode) (stripe : StripeNo) → IsOf st self.now → AreClassMembers code fragment members
-            → barred bars.new ≡ with_seat self.now.topology code stripe fragment (barred bars.old) other seat }
+    /// `members`, the class of the fragment for which they are barred. The node must be one of the store's.
+    fn bar_seat(&self, bars: &mut BarredDomains, members: LossMask, other: Fragment, seat: Seat)
+        requires known { IsSome (node_at (slots_of self.now.table).nodes seat.node) }
+        ensures { (st : State) (code : AnyCode) (stripe : StripeNo) (fragment : Fragment) → IsOf st self.now → AreClassMembers code fragment members
+            → nat_eq other.value fragment.value ≡ false
+            → barred bars.new ≡ with_seat self.now.topology code stripe fragment (barred bars.old) other (Some seat) }
     {
-        if other == fragment {
-            return;
-        }
-        if let Some(seat) = seat {
-            if members.contains(other) {
-                self.table.bar_domains_of(bars, seat.node);
-            } else {
-                self.table.bar_fault_of(bars, seat.node);
-            }
+        if members.contains(other) {
+            self.table.bar_domains_of(bars, seat.node);
+        } else {
+            self.table.bar_fault_of(bars, seat.node);
         }
     }
 }

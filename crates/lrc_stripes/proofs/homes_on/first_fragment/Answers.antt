@@ -1,7 +1,7 @@
 use Rattle.std.proofs.Common.{w16, arith}
 use Rattle.std.proofs.lemmas.Bool.{eq-eqb, ne_eqb}
 use Rattle.std.proofs.lemmas.Nat.Bits.{bit_at-trailing_zeros}
-use Rattle.lrc_stripes.proofs.homes_on.first.Goals as goal
+use Rattle.lrc_stripes.proofs.homes_on.first_fragment.Goals as goal
 
 pub returns-clause-first : goal.returns-clause-first
 returns-clause-first c =
