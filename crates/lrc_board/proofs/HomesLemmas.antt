@@ -164,28 +164,6 @@ module _ (st : State) (s : StripeNo) where
   row-some code homes a b =
       some-by (has_stripe st s) (code_of st s) code (map (λ (f : Fragment). homes_of st.homes s f.value) (fragments Wide)) homes (sym a) (sym b) ∙ sym (row-is st s)
 
--- ---- homes copied one by one
-
-pub packed-more : (homes packed next : List (Option Seat)) (i n : ℕ) → n ≡ i → i < 16
-    → (length packed ≡ 16) × ((k : ℕ) → k < i → get_or packed k None ≡ get_or homes k None) → next ≡ set packed n (get_or homes n None)
-    → (length next ≡ 16) × ((k : ℕ) → k < i + 1 → get_or next k None ≡ get_or homes k None)
-packed-more homes packed next i n at low was is =
-    let here : next ≡ set packed i (get_or homes i None) = is ∙ ap (λ (j : ℕ). set packed j (get_or homes j None)) at in (
-      ap length here ∙ length-set packed i (get_or homes i None) ∙ was.0,
-      λ k below. ap (λ (l : List (Option Seat)). get_or l k None) here ∙ (elim (cases_eq k i) [
-        | inl same ↦
-            ap (λ (j : ℕ). get_or (set packed i (get_or homes i None)) j None) same
-            ∙ get_or-set_same packed i (get_or homes i None) None (let long = was.0 in omega (arith, low, long))
-            ∙ ap (λ (j : ℕ). get_or homes j None) (sym same)
-        | inr other ↦ get_or-set_other packed i k (get_or homes i None) None other ∙ was.1 k (omega (arith, below, other))
-      ]),
-    )
-
-pub packed-all : (homes packed : List (Option Seat)) (i : ℕ) → 16 ≤ i → length homes ≡ 16
-    → (length packed ≡ 16) × ((k : ℕ) → k < i → get_or packed k None ≡ get_or homes k None) → packed ≡ homes
-packed-all homes packed i past long was =
-    ext_get_or None packed homes (was.0 ∙ sym long) (λ k below. was.1 k (let some = was.0 in omega (arith, some, past, below)))
-
 -- ---- the rows and the flags of a state
 
 pub own-number : (s : StripeNo) → stripe_at s.value ≡ s

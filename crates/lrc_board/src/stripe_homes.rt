@@ -25,11 +25,8 @@ impl StripeHomes {
         ensures { result ≡ homes_row (state_of book.now) stripe }
     {
         let code = book.code(stripe)?;
-        let homes = book.homes(stripe)?;
-        Some(StripeHomes {
-            code,
-            homes: packed(&homes),
-        })
+        let homes = book.packed_homes(stripe)?;
+        Some(StripeHomes { code, homes })
     }
 
     /// Reports whether a fragment has its home on the node.
@@ -57,17 +54,6 @@ pub(crate) fn homes_in(rows: &[Option<StripeHomes>], stripe: StripeNo) -> Option
         Some(row) => row.as_ref(),
         None => None,
     }
-}
-
-/// Returns the same homes as a stripe keeps them.
-fn packed(homes: &[Option<Seat>; FRAGMENTS]) -> Homes
-    ensures { result ≡ homes.now }
-{
-    let mut packed = Homes::new();
-    for fragment in Fragment::all() {
-        packed.put(fragment, homes[fragment.value as usize]);
-    }
-    packed
 }
 
 /// Returns the fragments with a home on an online node.

@@ -15,6 +15,7 @@ use lrc_code::{Code, FRAGMENTS, Fault, Fragment, LossMask, NodeNo, SessionNo, St
 use lrc_images::Image;
 use lrc_leases::Grants;
 use lrc_store::{RepairCursor, Store};
+use lrc_stripes::Homes;
 use lrc_topology::Topology;
 use std::alloc::Global;
 use std::marker::Model;
@@ -146,6 +147,13 @@ impl Book {
         ensures { result ≡ homes_shown (state_of self.now) stripe }
     {
         self.store().stripes.homes(stripe)
+    }
+
+    /// The same homes in the form in which the store keeps them, which is cheap to copy.
+    pub fn packed_homes(&self, stripe: StripeNo) -> Option<Homes>
+        ensures { result ≡ homes_shown (state_of self.now) stripe }
+    {
+        self.store().stripes.packed_homes(stripe)
     }
 
     /// The number of seats on a node; `None` where the store has no such node.

@@ -63,6 +63,17 @@ impl Homes {
         }
     }
 
+    /// The same homes once more.
+    pub fn again(&self) -> Homes
+        ensures { result ≡ self.now }
+    {
+        Homes {
+            nodes: self.nodes,
+            homed: LossMask::from_bits(self.homed.bits),
+            slots: self.slots,
+        }
+    }
+
     /// The home of a fragment, if it has one.
     pub fn home(&self, fragment: Fragment) -> Option<Seat>
         ensures { result ≡ get_or self.now fragment.value None }

@@ -12,7 +12,7 @@ ghost use Rattle.lrc_stripes.specs.Tables.{stored_in};
 ghost use Rattle.lrc_stripes.specs.Upgrades.{is_short_lost_to, IsFirstShortLostTo};
 
 use crate::stripes::Stripes;
-use crate::{AtRisk, HomeDomains, HomesOn, Level, Seat, Work, upgrades};
+use crate::{AtRisk, HomeDomains, Homes, HomesOn, Level, Seat, Work, upgrades};
 use lrc_code::{Code, FRAGMENTS, Fragment, LossMask, NodeNo, StripeNo, UpgradeNo};
 use lrc_terms::Mode;
 
@@ -48,6 +48,14 @@ impl Stripes {
     {
         let row = self.rows.get(stripe)?;
         Some(row.homes.all())
+    }
+
+    /// The same homes in the form in which they are kept, which is cheap to copy.
+    pub fn packed_homes(&self, stripe: StripeNo) -> Option<Homes>
+        ensures { result ≡ homes_shown (stored_in self.now) stripe }
+    {
+        let row = self.rows.get(stripe)?;
+        Some(row.homes.again())
     }
 
     /// The fragments of a stripe that have a home; each is one of the stripe's code.

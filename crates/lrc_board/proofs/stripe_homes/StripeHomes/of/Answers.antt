@@ -11,4 +11,4 @@ returns-in_err-homes c = c.from_residual-in_err-homes.ensures ∙ row-bare (stat
 
 pub returns : goal.returns
 returns c =
-    rw c.packed.ensures (row-some (state_of c.args.book.now) c.args.stripe c.in_ok-code.code c.in_ok-homes.homes c.in_ok-code.ensures c.in_ok-homes.ensures)
+    row-some (state_of c.args.book.now) c.args.stripe c.in_ok-code.code c.in_ok-homes.homes c.in_ok-code.ensures c.in_ok-homes.ensures
