@@ -110,6 +110,15 @@ impl<N: ViewNaming> Keeper<N> {
         ensures all { viewer.new ≡ self.old.history }
     {
         self.covers(viewer);
+        self.advance(viewer);
+    }
+
+    /// Moves the viewer to the end of the history, without a proof that it moves forward: `covers` gives one, before the last
+    /// call too.
+    pub fn advance(&self, viewer: &mut Viewer<N>)
+        ensures legal { IsLegal N.topology viewer.new }
+        ensures all { viewer.new ≡ self.now.history }
+    {
         let count = self.book.history().len() as u64;
         viewer.see(count, &self.log.prefix());
     }

@@ -82,13 +82,13 @@ impl<N: Naming> LockedState<N> {
         let receipt = match keeper.apply(rt, *number, command) {
             Ok(receipt) => receipt,
             Err(Fault::HistoryFull) => {
-                keeper.show(viewer);
+                keeper.advance(viewer);
                 return Err(Fault::HistoryFull);
             }
             Err(Fault::OutOfMemory) => return Err(Fault::OutOfMemory),
         };
         let _entries = keeper.book().history();
-        keeper.show(viewer);
+        keeper.advance(viewer);
         tally.add(share, 1);
         tally.audit(share);
         *made += 1;

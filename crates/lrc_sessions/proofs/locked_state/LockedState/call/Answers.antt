@@ -16,7 +16,7 @@ returns-clause-called g c =
     let e : Entry = record { session = c.session.inside.number; command = c.args.command; reply = r.reply } in
     let is = ap (λ (v : SessionView). v.number) c.session.view_is in
     let begins = subst (λ (f : List Entry). IsPrefix f history) (ap (λ (v : SessionView). v.seen) c.session.view_is) c.covers.ensures.covers in
-    let grown = c.show-2.ensures.all ∙ (c.in-Ok.ensures.entry ∙ ap (λ (k : BookView). k.history ++ e ∷ []) c.covers.ensures.same) in
-    let place = c.in-Ok.ensures.place ∙ sym (ap length c.show-2.ensures.all) in
+    let grown = c.advance-2.ensures.all ∙ (c.in-Ok.ensures.entry ∙ ap (λ (k : BookView). k.history ++ e ∷ []) c.covers.ensures.same) in
+    let place = c.in-Ok.ensures.place ∙ sym (ap length c.advance-2.ensures.all) in
     called g.N.ViewNaming.topology c.args.session.now _ c.session.inside.number c.args.command r history is begins grown is
-    (ap (λ (v : SessionView). v.made + 1) c.session.view_is) c.show-2.ensures.legal place
+    (ap (λ (v : SessionView). v.made + 1) c.session.view_is) c.advance-2.ensures.legal place
