@@ -1,18 +1,18 @@
 -- The update of a board from a book after one more step.
-use Rattle.std.proofs.Common.{◌≡◌, ℕ, List, length, map, ap, ◌∙◌}
+use Rattle.std.proofs.Common.{◌≡◌, ℕ, ◌||◌, List, length, map, ap, ◌∙◌}
 use Rattle.logbook.specs.Pages.{Book}
 use Rattle.lrc_topology.specs.declared.NodeInfo.{NodeInfo}
 use Rattle.lrc_rules.specs.States.{load}
 use Rattle.lrc_rules.specs.Histories.{first_world, state_from, IsLegal, state_after}
-use Rattle.lrc_rules.specs.Boards.{Loads, loads_of}
+use Rattle.lrc_rules.specs.Boards.{Loads}
 use Rattle.lrc_book.specs.Books.{BookView, state_of}
 use Rattle.lrc_board.specs.declared.line.Line.{Line}
 use Rattle.lrc_board.specs.declared.changes.Changes.{Changes}
 use Rattle.lrc_board.specs.Lines.{written}
 use Rattle.lrc_board.specs.Views.{BoardView, IsBoard, published}
-use Rattle.lrc_board.specs.Refreshed.{OthersStay, AreBoards, IsWhole, rows_refreshed, online_refreshed, renewed}
+use Rattle.lrc_board.specs.Refreshed.{OthersStay, AreBoards, IsWhole, rows_refreshed, online_refreshed, loads_refreshed, renewed}
 use Rattle.lrc_board.proofs.HomesLemmas.{rows-long, online-long}
-use Rattle.lrc_board.proofs.RefreshLemmas.{loads-whole, twice-rows, twice-online}
+use Rattle.lrc_board.proofs.RefreshLemmas.{loads-whole, twice-rows, twice-online, twice-loads}
 
 pub board-whole : (book : Book) (start : ℕ) (nodes : List NodeInfo) (x : BoardView) → IsBoard book start nodes x → IsWhole nodes x
 board-whole book start nodes x is =
@@ -42,7 +42,8 @@ board-renewed book start nodes last now shown spare b count lines are same writt
           (λ i. online_refreshed (same i) (is i) now.nodes (online_refreshed (same i) (is i) last.nodes (are.spare_is.shows.0.1 i)))
               ∙ twice-online nodes first second third last now are.between stay,
         ),
-        λ i. loads_of (same i) (is i),
+        (λ i. loads_refreshed (same i) (is i) (last.loads || now.loads) (are.spare_is.shows.1 i))
+            ∙ twice-loads nodes first second third last now are.between stay,
       );
       legal = legal;
     }

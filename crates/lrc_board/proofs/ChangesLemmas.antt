@@ -1,4 +1,4 @@
--- What a command leaves as it was: the codes and the homes of other stripes, and whether other nodes are online.
+-- What a command leaves as it was: the codes and the homes of other stripes, whether other nodes are online, and loads.
 use Rattle.std.proofs.Common.{◌≡◌, ◌≢◌, ℕ, ◌<◌, Bool, true, false, not, ◌&&◌, ◌||◌, if◌then◌else◌, eqb, List, [], ◌∷◌, map, filter, find, get_or, Option, Some, None, refl, sym, ap, ap₂, ◌∙◌, subst, inl, inr}
 use Rattle.std.proofs.Math.Path.{fun_ext}
 use Rattle.std.specs.List.{list_any}
@@ -27,7 +27,7 @@ use Rattle.lrc_homes.specs.Homes.{sits_on}
 use Rattle.lrc_rules.specs.declared.command.Command.{Command}
 use Rattle.lrc_rules.specs.declared.command.Command.TheVariants.{Place, Place6, Drop, Done, Fail, Down, Up, Retire, Join, Upgrade, Upgraded}
 use Rattle.lrc_rules.specs.declared.reply.Reply.{Reply}
-use Rattle.lrc_rules.specs.declared.reply.Reply.TheVariants.{Idle, Placed, Placed6, Dropped, Ended, Changed}
+use Rattle.lrc_rules.specs.declared.reply.Reply.TheVariants.{Refused, Idle, Placed, Placed6, Dropped, Ended, Changed}
 use Rattle.lrc_rules.specs.declared.entry.Entry.{Entry}
 use Rattle.lrc_rules.specs.States.{State, has_stripe, code_of, has_number, is_home_of, mode_of, is_online, is_upgrading, online_at, lease_of}
 use Rattle.lrc_rules.specs.Steps.{step, stands_on, without_stripe}
@@ -41,8 +41,9 @@ use Rattle.lrc_rules.proofs.CodedLemmas.{code-other, code-left, narrow-left}
 use Rattle.lrc_rules.proofs.StepLemmas.{step-changed}
 use Rattle.lrc_rules.proofs.LookUpLemmas.{is_of, seat_in, find-kept, homes-without}
 use Rattle.lrc_rules.proofs.ToldLemmas.{upgraded-told, upgrade-told}
+use Rattle.lrc_rules.specs.Boards.{loads_of}
 use Rattle.lrc_board.specs.Views.{homes_row}
-use Rattle.lrc_board.specs.Refreshed.{is_seated_on, is_row_on, is_stripe_changed, is_node_changed, stripes_changed_by, nodes_changed_by}
+use Rattle.lrc_board.specs.Refreshed.{is_seated_on, is_row_on, is_stripe_changed, is_node_changed, stripes_changed_by, nodes_changed_by, are_loads_changed_by}
 use Rattle.lrc_board.proofs.HomesLemmas.{row_with, row_by, row-is, home-in}
 
 -- ---- rows
@@ -233,6 +234,16 @@ module _ (nodes : List NodeInfo) (past : List Entry) (st : State) (session : Ses
     nodes-keep _ Idle told other = refl
     nodes-keep c r told other = online-alike nodes st (changed_by st c r) m refl refl (λ x e. refl)
 
+  abbrev KeepsLoads : State → Type 0
+  KeepsLoads next = loads_of nodes next ≡ loads_of nodes st
+
+  loads-keep : (c : Command) (r : Reply) → are_loads_changed_by c r ≡ false → KeepsLoads (changed_by st c r)
+  loads-keep (Fail n) Changed same = absurd (cc)
+  loads-keep c Changed same = refl
+  loads-keep c Idle same = refl
+  loads-keep c (Refused r) same = refl
+  loads-keep c r same = absurd (cc)
+
   -- a command leaves all else as it was
   pub row-stays : (s : StripeNo) (c : Command) → is_stripe_changed (stripes_changed_by c) s (homes_row st s) ≡ false
       → homes_row (step nodes past st session c).1 s ≡ homes_row st s
@@ -241,3 +252,7 @@ module _ (nodes : List NodeInfo) (past : List Entry) (st : State) (session : Ses
   pub node-stays : (m : NodeNo) (c : Command) → is_node_changed nodes (nodes_changed_by c) m ≡ false
       → online_at nodes (step nodes past st session c).1 m ≡ online_at nodes st m
   node-stays m c other = subst (KeepsNode m) (sym (step-changed nodes past st session c)) (nodes-keep m c (step nodes past st session c).0 refl other)
+
+  pub loads-stay : (c : Command) → are_loads_changed_by c (step nodes past st session c).0 ≡ false
+      → loads_of nodes (step nodes past st session c).1 ≡ loads_of nodes st
+  loads-stay c same = subst KeepsLoads (sym (step-changed nodes past st session c)) (loads-keep c (step nodes past st session c).0 same)

@@ -13,7 +13,7 @@ use Rattle.lrc_topology.specs.declared.NodeInfo.{NodeInfo}
 use Rattle.lrc_topology.specs.Nodes.{nodes_in}
 use Rattle.lrc_terms.specs.Stripes.{stripe_at}
 use Rattle.lrc_rules.specs.States.{State, online_at}
-use Rattle.lrc_rules.specs.Boards.{loads_by}
+use Rattle.lrc_rules.specs.Boards.{loads_by, loads_of}
 use Rattle.lrc_board.specs.declared.stripe_homes.StripeHomes.{StripeHomes}
 use Rattle.lrc_board.specs.declared.changes.ChangedStripes.{ChangedStripes}
 use Rattle.lrc_board.specs.declared.changes.ChangedStripes.TheVariants.{NoStripe, Stripe, AllOn}
@@ -22,7 +22,7 @@ use Rattle.lrc_board.specs.declared.changes.ChangedNodes.TheVariants.{NoNode, No
 use Rattle.lrc_board.specs.declared.changes.Changes.{Changes}
 use Rattle.lrc_board.specs.Views.{Rows, homes_row, rows_of, online_of}
 use Rattle.lrc_board.specs.Looks.{homes_in}
-use Rattle.lrc_board.specs.Refreshed.{is_row_on, is_stripe_changed, is_node_changed, OthersStay, row_anew, rows_anew_on, rows_refreshed, flag_anew, put_flags, online_refreshed}
+use Rattle.lrc_board.specs.Refreshed.{is_row_on, is_stripe_changed, is_node_changed, OthersStay, row_anew, rows_anew_on, rows_refreshed, flag_anew, put_flags, online_refreshed, loads_refreshed}
 use Rattle.lrc_board.proofs.HomesLemmas.{own-number, row-of, rows-long, flag-at, online-long}
 
 -- ---- rows
@@ -261,3 +261,14 @@ twice-online nodes first second third last now a b =
 pub loads-whole : (nodes : List NodeInfo) (loads : NodeNo → ℕ) → map (λ row. row.0) (loads_by nodes loads) ≡ map (λ m. m.number) nodes
 loads-whole [] loads = refl
 loads-whole (m ∷ ms) loads = ap (λ (ns : List NodeNo). m.number ∷ ns) (loads-whole ms loads)
+
+-- a board that lacks two steps has the loads of the last state after it copies them if one of these may have changed them
+pub twice-loads : (nodes : List NodeInfo) (first second third : State) (last now : Changes)
+    → OthersStay nodes last first second → OthersStay nodes now second third
+    → loads_refreshed nodes third (last.loads || now.loads) (loads_of nodes first) ≡ loads_of nodes third
+twice-loads nodes first second third last now a b = by last.loads now.loads a.loads b.loads where
+  by : (p q : Bool) → (IsFalse p → loads_of nodes second ≡ loads_of nodes first) → (IsFalse q → loads_of nodes third ≡ loads_of nodes second)
+      → loads_refreshed nodes third (p || q) (loads_of nodes first) ≡ loads_of nodes third
+  by true q one other = refl
+  by false true one other = refl
+  by false false one other = sym (other refl ∙ one refl)

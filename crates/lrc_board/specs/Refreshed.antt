@@ -1,6 +1,6 @@
 -- Internal: no public clause reaches these definitions.
--- What a step may have changed of what levels follow from, and the update of a board from a book.
-use Rattle.std.specs.Prelude.{◌≡◌, ℕ, Bool, false, IsFalse, if◌then◌else◌, List, length, map, fold, get_or, slice_set, Option, None}
+-- What a step may have changed of what a board shows, and the update of a board from a book.
+use Rattle.std.specs.Prelude.{◌≡◌, ℕ, Bool, true, false, ◌||◌, IsFalse, if◌then◌else◌, List, length, map, fold, get_or, slice_set, Option, None}
 use Rattle.std.specs.List.{list_any, range_with_len}
 use Rattle.std.specs.Option.{option_map_or}
 use Rattle.logbook.specs.Pages.{Book}
@@ -15,9 +15,11 @@ use Rattle.lrc_terms.specs.Stripes.{stripe_at}
 use Rattle.lrc_homes.specs.Homes.{sits_on}
 use Rattle.lrc_rules.specs.declared.command.Command.{Command}
 use Rattle.lrc_rules.specs.declared.command.Command.TheVariants.{Place, Place6, Drop, Done, Fail, Down, Up, Retire, Join, Upgrade, Upgraded}
+use Rattle.lrc_rules.specs.declared.reply.Reply.{Reply}
+use Rattle.lrc_rules.specs.declared.reply.Reply.TheVariants.{Refused, Idle, Changed}
 use Rattle.lrc_rules.specs.States.{State, online_at}
 use Rattle.lrc_rules.specs.Histories.{state_after}
-use Rattle.lrc_rules.specs.Boards.{loads_of}
+use Rattle.lrc_rules.specs.Boards.{Loads, loads_of}
 use Rattle.lrc_book.specs.Books.{BookView, state_of}
 use Rattle.lrc_board.specs.declared.line.Line.{Line}
 use Rattle.lrc_board.specs.declared.stripe_homes.StripeHomes.{StripeHomes}
@@ -50,13 +52,14 @@ is_node_changed nodes NoNode n = false
 is_node_changed nodes (Node m) n = same_node n m
 is_node_changed nodes (AllIn u) n = list_any (λ m. same_node n m.number) (nodes_in nodes u)
 
--- All other rows, and whether all other nodes are online, are the same in both states.
+-- All other rows, and whether all other nodes are online, are the same in both states; so are the loads, if none may have changed.
 pub record OthersStay (nodes : List NodeInfo) (changes : Changes) (was now : State) : Type 0 where
   pub rows : (s : StripeNo) → IsFalse (is_stripe_changed changes.stripes s (homes_row was s)) → homes_row now s ≡ homes_row was s
   pub online : (n : NodeNo) → IsFalse (is_node_changed nodes changes.nodes n) → online_at nodes now n ≡ online_at nodes was n
+  pub loads : IsFalse changes.loads → loads_of nodes now ≡ loads_of nodes was
 
 abbrev pub no_changes : Changes
-no_changes = record { stripes = NoStripe; nodes = NoNode }
+no_changes = record { stripes = NoStripe; nodes = NoNode; loads = false }
 
 -- the stripes whose code or homes a command can change
 abbrev pub stripes_changed_by : Command → ChangedStripes
@@ -77,6 +80,18 @@ nodes_changed_by (Join n) = Node n
 nodes_changed_by (Upgrade u) = AllIn u
 nodes_changed_by (Upgraded u) = AllIn u
 nodes_changed_by _ = NoNode
+
+-- the command says that a node failed
+abbrev pub is_fail : Command → Bool
+is_fail (Fail n) = true
+is_fail _ = false
+
+-- a command with this reply can have changed the load of a node
+abbrev pub are_loads_changed_by : Command → Reply → Bool
+are_loads_changed_by c (Refused r) = false
+are_loads_changed_by c Idle = false
+are_loads_changed_by c Changed = is_fail c
+are_loads_changed_by c _ = true
 
 -- ---- updates
 
@@ -108,16 +123,20 @@ online_refreshed nodes st NoNode flags = flags
 online_refreshed nodes st (Node n) flags = slice_set flags n.value (online_at nodes st n)
 online_refreshed nodes st (AllIn u) flags = put_flags (online_at nodes st) flags (nodes_in nodes u)
 
+-- the loads; those of the state if they may have changed
+abbrev pub loads_refreshed : List NodeInfo → State → Bool → Loads → Loads
+loads_refreshed nodes st changed loads = if changed then loads_of nodes st else loads
+
 -- the board has a row for each stripe number, a flag for each node number, and a load for each node
 abbrev pub IsWhole : List NodeInfo → BoardView → Type 0
 IsWhole nodes x = ((length x.rows ≡ 4096) × (length x.online ≡ 65536)) × (map (λ row. row.0) x.loads ≡ map (λ m. m.number) nodes)
 
--- the board after it is updated from a book: what one of two steps may have changed, and all loads
+-- the board after it is updated from a book: what one of two steps may have changed
 abbrev pub renewed : BoardView → BookView → Changes → Changes → ℕ → List Line → BoardView
 renewed x b last now count lines = record {
   rows = rows_refreshed (state_of b) now.stripes (rows_refreshed (state_of b) last.stripes x.rows);
   online = online_refreshed b.nodes (state_of b) now.nodes (online_refreshed b.nodes (state_of b) last.nodes x.online);
-  loads = loads_of b.nodes (state_of b);
+  loads = loads_refreshed b.nodes (state_of b) (last.loads || now.loads) x.loads;
   count = count;
   book = x.book;
   lines = lines;

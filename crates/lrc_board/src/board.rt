@@ -1,11 +1,11 @@
-ghost use Rattle.std.specs.Prelude.{◌≡◌, ℕ, [], length, replicate, get_or, slice_set, false, if◌then◌else◌, None, IfOk};
+ghost use Rattle.std.specs.Prelude.{◌≡◌, ℕ, [], length, map, replicate, get_or, slice_set, false, if◌then◌else◌, None, IfOk};
 ghost use Rattle.lrc_topology.specs.Nodes.{nodes_in};
 ghost use Rattle.lrc_rules.specs.States.{opening, online_at};
 ghost use Rattle.lrc_book.specs.Books.{state_of};
 ghost use Rattle.lrc_rules.specs.Boards.{loads_after, load_in};
 ghost use Rattle.lrc_board.specs.Views.{BoardView, homes_row, rows_of, online_of};
 ghost use Rattle.lrc_board.specs.Looks.{homes_in, level_on};
-ghost use Rattle.lrc_board.specs.Refreshed.{is_row_on, rows_refreshed, rows_anew_on, online_refreshed, put_flags, IsWhole, renewed};
+ghost use Rattle.lrc_board.specs.Refreshed.{is_row_on, rows_refreshed, rows_anew_on, online_refreshed, put_flags, loads_refreshed, IsWhole, renewed};
 
 use crate::changes::{ChangedNodes, ChangedStripes, Changes};
 use crate::line::LogPrefix;
@@ -112,8 +112,8 @@ impl Board {
         self.prefix.again()
     }
 
-    /// Updates the board from a book with `count` entries: what the last step and this one may have changed of the stripes and the
-    /// nodes, and all loads.
+    /// Updates the board from a book with `count` entries: what the last step and this one may have changed of the stripes, the
+    /// nodes and the loads.
     pub(crate) fn refresh(
         &mut self,
         book: &Book,
@@ -130,7 +130,7 @@ impl Board {
         refresh_rows(&mut self.rows, book, now.stripes);
         refresh_online(&mut self.online, book, last.nodes);
         refresh_online(&mut self.online, book, now.nodes);
-        self.loads.copy_from(book);
+        refresh_loads(&mut self.loads, book, last.loads || now.loads);
         self.count = count;
         self.prefix = prefix.again();
     }
@@ -235,6 +235,16 @@ fn refresh_online(online: &mut [bool], book: &Book, changed: ChangedNodes)
         ChangedNodes::NoNode => {}
         ChangedNodes::Node(node) => refresh_node(online, book, node),
         ChangedNodes::AllIn(domain) => refresh_domain(online, book, domain),
+    }
+}
+
+/// Copies all loads from a book, if any may have changed.
+fn refresh_loads(loads: &mut NodeLoads, book: &Book, are_changed: bool)
+    requires { map (λ row. row.0) loads.old ≡ map (λ m. m.number) book.now.nodes }
+    ensures { loads.new ≡ loads_refreshed book.now.nodes (state_of book.now) are_changed loads.old }
+{
+    if are_changed {
+        loads.copy_from(book);
     }
 }
 

@@ -4,7 +4,7 @@ ghost use Rattle.lrc_topology.specs.declared.NodeInfo.{NodeInfo};
 ghost use Rattle.lrc_rules.specs.declared.entry.Entry.{Entry};
 ghost use Rattle.lrc_rules.specs.States.{State};
 ghost use Rattle.lrc_rules.specs.Steps.{step};
-ghost use Rattle.lrc_board.specs.Refreshed.{OthersStay, no_changes, stripes_changed_by, nodes_changed_by};
+ghost use Rattle.lrc_board.specs.Refreshed.{OthersStay, no_changes, stripes_changed_by, nodes_changed_by, are_loads_changed_by, is_fail};
 
 use lrc_book::{Command, Reply};
 use lrc_code::{NodeNo, StripeNo, UpgradeNo};
@@ -27,11 +27,13 @@ pub(crate) enum ChangedNodes {
     AllIn(UpgradeNo),
 }
 
-/// What a step may have changed of what levels follow from.
+/// What a step may have changed of what a board shows.
 #[derive(Clone, Copy)]
 pub(crate) struct Changes {
     pub(crate) stripes: ChangedStripes,
     pub(crate) nodes: ChangedNodes,
+    /// Whether the load of any node may have changed.
+    pub(crate) loads: bool,
 }
 
 impl Changes {
@@ -42,6 +44,7 @@ impl Changes {
         Changes {
             stripes: ChangedStripes::NoStripe,
             nodes: ChangedNodes::NoNode,
+            loads: false,
         }
     }
 
@@ -55,6 +58,7 @@ impl Changes {
             _ => Changes {
                 stripes: stripes_changed_by(command),
                 nodes: nodes_changed_by(command),
+                loads: are_loads_changed_by(command, reply),
             },
         }
     }
@@ -87,5 +91,27 @@ fn nodes_changed_by(command: Command) -> ChangedNodes
         Command::Upgrade(domain) => ChangedNodes::AllIn(domain),
         Command::Upgraded(domain) => ChangedNodes::AllIn(domain),
         _ => ChangedNodes::NoNode,
+    }
+}
+
+/// Reports whether a command with this reply may have changed the load of any node.
+fn are_loads_changed_by(command: Command, reply: &Reply) -> bool
+    ensures { result ≡ are_loads_changed_by command reply.now }
+{
+    match reply {
+        Reply::Refused(_) => false,
+        Reply::Idle => false,
+        Reply::Changed => is_fail(command),
+        _ => true,
+    }
+}
+
+/// Reports whether the command says that a node failed.
+fn is_fail(command: Command) -> bool
+    ensures { result ≡ is_fail command }
+{
+    match command {
+        Command::Fail(_) => true,
+        _ => false,
     }
 }
