@@ -1,17 +1,17 @@
 -- The repair that the next lease is granted for.
-use Rattle.std.proofs.Common.{◌≡◌, ℕ, zero, suc, ◌+◌, ◌-◌, ◌<◌, ◌≤◌, Bool, true, false, not, ◌&&◌, if◌then◌else◌, List, take, drop, get_or, length, find, Option, Some, None, is_none, is_some, Ok, Err, refl, sym, ap, ap₂, subst, ◌∙◌, arith, w16, lit<}
+use Rattle.std.proofs.Common.{◌≡◌, ℕ, zero, suc, ◌+◌, ◌-◌, ◌<◌, ◌≤◌, Bool, true, false, not, ◌&&◌, if◌then◌else◌, List, drop, get_or, length, find, Option, Some, None, is_none, is_some, Ok, Err, refl, sym, ap, ap₂, subst, ◌∙◌, arith, inl, inr, eqb}
 use Rattle.std.specs.Result.{is_ok, result_ok}
-use Rattle.std.proofs.lemmas.Bool.{and_parts}
+use Rattle.std.proofs.lemmas.Bool.{and_parts, cases_eq, ne_eqb}
 use Rattle.std.proofs.lemmas.Option.{same_Some}
-use Rattle.std.proofs.lemmas.List.{drop_more, take_all, length-drop}
-use Rattle.std.proofs.lemmas.Nat.Bits.{bit_at-zero, bit_at-trailing_zeros}
-use Rattle.std.specs.Int.{trailing_zeros}
+use Rattle.std.proofs.lemmas.List.{drop_more}
+use Rattle.std.proofs.lemmas.Nat.Bits.{bit_at-zero}
 use Rattle.lrc_code.specs.declared.codes.Code.TheVariants.{Wide}
-use Rattle.lrc_code.specs.Codes.{fragment, fragments, has_fragment}
+use Rattle.lrc_code.specs.Codes.{fragments, has_fragment}
 use Rattle.lrc_code.specs.declared.numbers.StripeNo.{StripeNo}
 use Rattle.lrc_code.specs.declared.numbers.SessionNo.{SessionNo}
 use Rattle.lrc_code.specs.declared.numbers.Fragment.{Fragment}
 use Rattle.lrc_code.specs.Losses.{bits_set}
+use Rattle.lrc_code.proofs.NumbersLemmas.{equal_fragments}
 use Rattle.lrc_topology.specs.declared.NodeInfo.{NodeInfo}
 use Rattle.lrc_topology.specs.declared.seat.Seat.{Seat}
 use Rattle.lrc_terms.specs.declared.lease.Lease.{Lease}
@@ -28,7 +28,7 @@ use Rattle.lrc_rules.specs.Repairs.{needs, kind, is_beyond_repair}
 use Rattle.lrc_rules.specs.Leases.{new_lease, lease_outcome}
 use Rattle.lrc_rules.specs.Urgency.{is_grantable}
 use Rattle.lrc_store.specs.Repairing.{is_waiting, repair_by, repair_or_refusal, fragment_of, IsRepair}
-use Rattle.lrc_bars.proofs.FragmentListLemmas.{number-at}
+use Rattle.lrc_bars.proofs.FragmentListLemmas.{fragment-at, number-at}
 use Rattle.lrc_rules.proofs.MostUrgentLemmas.{none-from}
 use Rattle.lrc_store.proofs.LeaseReplyLemmas.{answer-by, lease-decided}
 use Rattle.lrc_rules.proofs.UrgencyLemmas.{needs-own}
@@ -92,19 +92,14 @@ found-repair nodes st p r same there waits found = record {
   found = subst (λ (q : StripeFragment). repair_or_refusal nodes st q.0 q.1 ≡ Ok r) (sym same) found;
 }
 
--- none would be, where no fragment waits
-pub none-grantable : (nodes : List NodeInfo) (st : State) (s : StripeNo) (fs : List Fragment) (waiting : ℕ) → waiting ≡ 0
-    → ((f : Fragment) → bits_set waiting f.value ≡ is_waiting nodes st s f) → find (λ (f : Fragment). is_grantable nodes st (s, f)) fs ≡ None
-none-grantable nodes st s fs waiting none are =
-    none-find (λ (f : Fragment). is_grantable nodes st (s, f)) fs (λ f here.
-    let idle : bits_set waiting f.value ≡ false = rw (none, bit_at-zero f.value) refl in
-    sym (not-waiting nodes st s f (sym (are f) ∙ idle)))
-
 -- ---- the first of a list that passes a test
 
 module _ {X : Type 0} (test : X → Bool) (xs : List X) (i : ℕ) (d : X) (within : i < length xs) where
   pub find-later : test (get_or xs i d) ≡ false → find test (drop i xs) ≡ find test (drop (i + 1) xs)
   find-later miss = rw (drop_more xs i d within, miss) refl
+
+  pub find-at : test (get_or xs i d) ≡ true → find test (drop i xs) ≡ Some (get_or xs i d)
+  find-at hit = rw (drop_more xs i d within, hit) refl
 
 -- what none of the first passes is looked for behind them
 find-past : {X : Type 0} (test : X → Bool) (xs : List X) (k : ℕ) (d : X) → k ≤ length xs → ((i : ℕ) → i < k → test (get_or xs i d) ≡ false)
@@ -114,23 +109,31 @@ find-past test xs (suc k) d few miss =
     find-past test xs k d (omega (arith, few)) (λ i below. miss i (omega (arith, below))) ∙ find-later test xs k d (omega (arith, few)) (miss k (omega arith))
     ∙ (let next : k + 1 ≡ suc k = omega arith in ap (λ n. find test (drop n xs)) next)
 
--- the first grantable fragment is not below the first that waits
-pub first-waiting : (nodes : List NodeInfo) (st : State) (s : StripeNo) (waiting : ℕ) (items : List Fragment) → 0 < waiting → waiting < 65536
-    → ((f : Fragment) → bits_set waiting f.value ≡ is_waiting nodes st s f) → items ≡ fragments Wide
-    → find (λ (f : Fragment). is_grantable nodes st (s, f)) (fragments Wide)
-    ≡ find (λ (f : Fragment). is_grantable nodes st (s, f)) (take (16 - trailing_zeros w16 waiting) (drop (trailing_zeros w16 waiting) items))
-first-waiting nodes st s waiting items some small are all =
-    let test = λ (f : Fragment). is_grantable nodes st (s, f) in
-    let k = trailing_zeros w16 waiting in
-    let low = bit_at-trailing_zeros w16 waiting some small in
-    let d = fragment 0 (lit< tt) in
-    let within : k ≤ 16 = omega (arith, low.0) in
-    let left : length (drop k (fragments Wide)) ≤ 16 - k = let h = length-drop k (fragments Wide) in omega (arith, h) in
-    find-past test (fragments Wide) k d within (λ i below.
-    let number = number-at i d (omega (arith, below, within)) in
-    let idle : bits_set waiting (get_or (fragments Wide) i d).value ≡ false = rw (number, low.2 i below) refl in
-    sym (not-waiting nodes st s (get_or (fragments Wide) i d) (sym (are (get_or (fragments Wide) i d)) ∙ idle)))
-    ∙ ap (find test) (sym (rw all (take_all (16 - k) (drop k (fragments Wide)) left)))
+module _ (nodes : List NodeInfo) (st : State) (s : StripeNo) (left : ℕ)
+    (past : (g : Fragment) → bits_set left g.value ≡ false → is_grantable nodes st (s, g) ≡ false) where
+  -- none is grantable, where none is left
+  pub none-left : left ≡ 0 → find (λ (f : Fragment). is_grantable nodes st (s, f)) (fragments Wide) ≡ None
+  none-left none =
+      none-find (λ (f : Fragment). is_grantable nodes st (s, f)) (fragments Wide) (λ f here. past f (rw (none, bit_at-zero f.value) refl))
+
+  -- the first that is left is the first that is grantable, if it is
+  pub first-grantable : (f : Fragment) → ((g : ℕ) → g < f.value → bits_set left g ≡ false) → is_grantable nodes st (s, f) ≡ true
+      → find (λ (g : Fragment). is_grantable nodes st (s, g)) (fragments Wide) ≡ Some f
+  first-grantable f low hit =
+      let test = λ (g : Fragment). is_grantable nodes st (s, g) in
+      let within = f.in_range in
+      let here = fragment-at f in
+      find-past test (fragments Wide) f.value f (omega (arith, within)) (λ i below.
+      past (get_or (fragments Wide) i f) (ap (bits_set left) (number-at i f (omega (arith, below, within))) ∙ low i below))
+      ∙ find-at test (fragments Wide) f.value f within (ap test here ∙ hit) ∙ ap (λ (g : Fragment). Some g) here
+
+  -- one more is past
+  pub grantable-past : (next : ℕ) (f : Fragment) → ((g : ℕ) → bits_set next g ≡ (not (eqb g f.value) && bits_set left g)) → is_grantable nodes st (s, f) ≡ false
+      → (g : Fragment) → bits_set next g.value ≡ false → is_grantable nodes st (s, g) ≡ false
+  grantable-past next f less miss g out = elim (cases_eq g.value f.value) [
+    | inl same ↦ ap (λ (h : Fragment). is_grantable nodes st (s, h)) (equal_fragments g f same) ∙ miss
+    | inr away ↦ past g (sym (ap (λ (b : Bool). not b && bits_set left g.value) (ne_eqb g.value f.value away)) ∙ (sym (less g.value) ∙ out))
+  ]
 
 -- ---- the lease of such a repair is granted
 

@@ -20,7 +20,7 @@ use crate::store::Store;
 use lrc_answers::Answer;
 use lrc_code::{Fragment, LossMask, SessionNo, StripeNo};
 use lrc_leases::Grants;
-use lrc_stripes::Work;
+use lrc_stripes::{Work, first_fragment};
 
 impl Store {
     #[inline(always)] // a step without work then makes no call here
@@ -101,15 +101,12 @@ impl Store {
         ensures repair { IfSome result (λ r. (st : State) → IsOf st self.now → IsRepair self.now.topology st r) }
     {
         let waiting = self.waiting(stripe);
-        if waiting.bits() == 0 {
-            return None;
-        }
-        let all = Fragment::all();
-        let first = waiting.bits().trailing_zeros() as usize;
-        for fragment in all[first..].iter() {
-            if let Some(repair) = self.waiting_repair(waiting, stripe, *fragment) {
+        let mut left = waiting;
+        while let Some(fragment) = first_fragment(left) {
+            if let Some(repair) = self.waiting_repair(waiting, stripe, fragment) {
                 return Some(repair);
             }
+            left = left.without(fragment);
         }
         None
     }
