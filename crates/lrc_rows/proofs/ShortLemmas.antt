@@ -2,7 +2,7 @@
 use Rattle.std.proofs.Common.{◌≡◌, ◌≢◌, ℕ, ◌+◌, ◌-◌, ◌<◌, zero, suc, cond, inl, inr, Bool, true, false, not, ◌&&◌, ◌||◌, nat_lt, nat_eq, ◌≤◌, List, [], ◌∷◌, length, map, take, get_or, Option, Some, None, is_none, option_and_then, arith, refl, sym, ap, ap₂, ◌∙◌, subst}
 use Rattle.std.proofs.Math.Path.{fun_ext}
 use Rattle.std.specs.List.{list_any, count_by, AllPairs}
-use Rattle.std.proofs.lemmas.Bool.{and_parts, cases_Bool, cases_lt, eq-eqb, eqb-true, lt-ltb, le-ltb}
+use Rattle.std.proofs.lemmas.Bool.{and_parts, cases_Bool, cases_lt, eq-eqb, eqb-true, lt-ltb, le-ltb, ltb-false}
 use Rattle.std.proofs.lemmas.List.{get_or_past, get_or-map}
 use Rattle.lrc_bits.specs.Flags.{FindsFrom}
 use Rattle.std.proofs.lemmas.List.Folds.{list_any_at}
@@ -15,7 +15,7 @@ use Rattle.lrc_nodes.specs.States.{is_node_online, is_node_offline}
 use Rattle.lrc_rows.specs.declared.row.Row.{Row}
 use Rattle.lrc_nodes.specs.declared.node_state.NodeState.{NodeState}
 use Rattle.lrc_ranks.specs.Sets.{has, at_rank}
-use Rattle.lrc_rows.specs.NodeStates.{NodeStates, NodeLists, states_in, is_on_several_offline}
+use Rattle.lrc_rows.specs.NodeStates.{NodeStates, NodeLists, states_in, offline_in, is_on_several_offline}
 use Rattle.lrc_rows.specs.Listed.{rows_in}
 use Rattle.lrc_homes.specs.Masks.{work_rank, rank_of}
 use Rattle.lrc_ranks.specs.Ranks.{is_at}
@@ -120,13 +120,15 @@ once-more : (n m : ℕ) (b : Bool) → m ≡ cond b (n + 1) n → (nat_lt 0 n ||
 once-more n m true e = or-true (nat_lt 0 n) ∙ sym (lt-ltb 0 m (omega (arith, e)))
 once-more n m false e = or-false (nat_lt 0 n) ∙ ap (nat_lt 0) (sym e)
 
-twice-more : (n m : ℕ) (b : Bool) → m ≡ cond b (n + 1) n → (nat_lt 1 n || (nat_lt 0 n && b)) ≡ nat_lt 1 m
-twice-more n m false e = ap (λ c. nat_lt 1 n || c) (and-false (nat_lt 0 n)) ∙ or-false (nat_lt 1 n) ∙ ap (nat_lt 1) (sym e)
-twice-more n m true e = elim (cases_lt 0 n) [
-  | inl some ↦ ap (λ c. nat_lt 1 n || (c && true)) (lt-ltb 0 n some) ∙ or-true (nat_lt 1 n) ∙ sym (lt-ltb 1 m (omega (arith, e, some)))
+one-more : (k n m : ℕ) (b : Bool) → m ≡ cond b (n + 1) n → (nat_lt (k + 1) n || (nat_lt k n && b)) ≡ nat_lt (k + 1) m
+one-more k n m false e = ap (λ c. nat_lt (k + 1) n || c) (and-false (nat_lt k n)) ∙ or-false (nat_lt (k + 1) n) ∙ ap (nat_lt (k + 1)) (sym e)
+one-more k n m true e = elim (cases_lt k n) [
+  | inl some ↦
+      ap (λ c. nat_lt (k + 1) n || (c && true)) (lt-ltb k n some) ∙ or-true (nat_lt (k + 1) n)
+      ∙ sym (lt-ltb (k + 1) m (omega (arith, e, some)))
   | inr none ↦
-      ap (λ c. nat_lt 1 n || (c && true)) (le-ltb 0 n none) ∙ or-false (nat_lt 1 n) ∙ le-ltb 1 n (omega (arith, none))
-      ∙ sym (le-ltb 1 m (omega (arith, e, none)))
+      ap (λ c. nat_lt (k + 1) n || (c && true)) (le-ltb k n none) ∙ or-false (nat_lt (k + 1) n) ∙ le-ltb (k + 1) n (omega (arith, none))
+      ∙ sym (le-ltb (k + 1) m (omega (arith, e, none)))
 ]
 
 module _ (z : NodeStates) (xs : List NodeState) (i : ℕ) (d : NodeState) (within : i < length xs) where
@@ -143,35 +145,37 @@ module _ (z : NodeStates) (xs : List NodeState) (i : ℕ) (d : NodeState) (withi
   count-same : z.online here.node.number ≡ true → (s : StripeNo) → counted z s (take i xs) ≡ counted z s (take (i + 1) xs)
   count-same on s = sym (count-next s ∙ ap (λ b. cond (not b && z.on here.node.number s) (counted z s (take i xs) + 1) (counted z s (take i xs))) on)
 
-  module _ (once twice : List Bool) (one : has once ≡ λ s. nat_lt 0 (counted z s (take i xs))) (two : has twice ≡ λ s. nat_lt 1 (counted z s (take i xs))) where
-    own : z.online here.node.number ≡ false → (s : StripeNo) → counted z s (take (i + 1) xs) ≡ cond (z.on here.node.number s) (counted z s (take i xs) + 1) (counted z s (take i xs))
-    own off s = count-next s ∙ ap (λ b. cond (not b && z.on here.node.number s) (counted z s (take i xs) + 1) (counted z s (take i xs))) off
+  module _ (off : z.online here.node.number ≡ false) where
+    own : (s : StripeNo) → counted z s (take (i + 1) xs) ≡ cond (z.on here.node.number s) (counted z s (take i xs) + 1) (counted z s (take i xs))
+    own s = count-next s ∙ ap (λ b. cond (not b && z.on here.node.number s) (counted z s (take i xs) + 1) (counted z s (take i xs))) off
 
-    pub once-next : (next : List Bool) → z.online here.node.number ≡ false → has next ≡ (λ s. has once s || z.on here.node.number s)
+    pub once-next : (once next : List Bool) → has once ≡ (λ s. nat_lt 0 (counted z s (take i xs))) → has next ≡ (λ s. has once s || z.on here.node.number s)
         → has next ≡ λ s. nat_lt 0 (counted z s (take (i + 1) xs))
-    once-next next off joined = joined ∙ fun_ext (λ s.
+    once-next once next one joined = joined ∙ fun_ext (λ s.
         ap (λ (f : StripeNo → Bool). f s || z.on here.node.number s) one
-        ∙ once-more (counted z s (take i xs)) (counted z s (take (i + 1) xs)) (z.on here.node.number s) (own off s))
+        ∙ once-more (counted z s (take i xs)) (counted z s (take (i + 1) xs)) (z.on here.node.number s) (own s))
 
-    pub twice-next : (next : List Bool) → z.online here.node.number ≡ false → has next ≡ (λ s. has twice s || (has once s && z.on here.node.number s))
-        → has next ≡ λ s. nat_lt 1 (counted z s (take (i + 1) xs))
-    twice-next next off joined = joined ∙ fun_ext (λ s.
-        ap (λ (f : StripeNo → Bool). f s || (has once s && z.on here.node.number s)) two
-        ∙ (ap (λ (f : StripeNo → Bool). nat_lt 1 (counted z s (take i xs)) || (f s && z.on here.node.number s)) one
-        ∙ twice-more (counted z s (take i xs)) (counted z s (take (i + 1) xs)) (z.on here.node.number s) (own off s)))
+    -- the stripes with homes on more than so many, by those with homes on so many
+    pub more-next : (k : ℕ) (fewer more next : List Bool) → has fewer ≡ (λ s. nat_lt k (counted z s (take i xs)))
+        → has more ≡ (λ s. nat_lt (k + 1) (counted z s (take i xs))) → has next ≡ (λ s. has more s || (has fewer s && z.on here.node.number s))
+        → has next ≡ λ s. nat_lt (k + 1) (counted z s (take (i + 1) xs))
+    more-next k fewer more next lower higher joined = joined ∙ fun_ext (λ s.
+        ap (λ (f : StripeNo → Bool). f s || (has fewer s && z.on here.node.number s)) higher
+        ∙ (ap (λ (f : StripeNo → Bool). nat_lt (k + 1) (counted z s (take i xs)) || (f s && z.on here.node.number s)) lower
+        ∙ one-more k (counted z s (take i xs)) (counted z s (take (i + 1) xs)) (z.on here.node.number s) (own s)))
 
 count-map : {X Y : Type 0} (p : Y → Bool) (f : X → Y) (xs : List X) → count_by (λ x. p (f x)) xs ≡ count_by p (map f xs)
 count-map p f [] = refl
 count-map {X} p f (x ∷ xs) =
     sum_by-cons (λ (y : X). cond (p (f y)) 1 0) x xs ∙ ap (λ (n : ℕ). cond (p (f x)) 1 0 + n) (count-map p f xs) ∙ sym (sum_by-cons (λ y. cond (p y) 1 0) (f x) (map f xs))
 
-pub on_several-nodes : (states : List NodeState) (sets : List (List Bool)) (t : NodeLists) (view : ◌≡◌ {A = NodeLists} (record { list = states; stripes = sets }) t)
-    → (λ s. nat_lt 1 (counted (states_in t) s states)) ≡ is_on_several_offline (states_in t)
+pub on_more-nodes : (k : ℕ) (states : List NodeState) (sets : List (List Bool)) (t : NodeLists) (view : ◌≡◌ {A = NodeLists} (record { list = states; stripes = sets }) t)
+    → ◌≡◌ {A = StripeNo → Bool} (λ s. nat_lt k (counted (states_in t) s states)) (λ s. nat_lt k (offline_in (states_in t) s (states_in t).nodes))
 unfolding states_in
-on_several-nodes states sets t view =
-    subst (λ (y : NodeLists). (λ (s : StripeNo). nat_lt 1 (counted (states_in y) s states)) ≡ is_on_several_offline (states_in y)) view
+on_more-nodes k states sets t view =
+    subst (λ (y : NodeLists). ◌≡◌ {A = StripeNo → Bool} (λ s. nat_lt k (counted (states_in y) s states)) (λ s. nat_lt k (offline_in (states_in y) s (states_in y).nodes))) view
     (let now : NodeStates = states_in (record { list = states; stripes = sets }) in
-    fun_ext (λ s. ap (nat_lt 1) (count-map (λ (n : NodeInfo). not (now.online n.number) && now.on n.number s) (λ (x : NodeState). x.node) states)))
+    fun_ext (λ s. ap (nat_lt k) (count-map (λ (n : NodeInfo). not (now.online n.number) && now.on n.number s) (λ (x : NodeState). x.node) states)))
 
 -- a node of the list is online where it says so itself
 pub online-there : (states : List NodeState) (sets : List (List Bool)) (t : NodeLists) (view : ◌≡◌ {A = NodeLists} (record { list = states; stripes = sets }) t)
@@ -229,7 +233,11 @@ few-on_several states sets t view apart few =
     let said = online-there states sets t view apart i d inside in
     ap not (sym said) ∙ off) in
     sym (le-ltb 1 (counted (states_in t) s states) (omega (arith, within, few))))
-    ∙ on_several-nodes states sets t view
+    ∙ on_more-nodes 1 states sets t view
+
+-- nor on many
+pub few-on_many : (n : ℕ) → nat_lt 1 n ≡ false → nat_lt 2 n ≡ false
+few-on_many n few = let most = ltb-false 1 n few in le-ltb 2 n (omega (arith, most))
 
 -- where none of them passes the test, none passes it and another
 none-both : (p q : NodeState → Bool) (xs : List NodeState) → ((i : ℕ) (d : NodeState) → i < length xs → p (get_or xs i d) ≡ false) → list_any (λ x. p x && q x) xs ≡ false

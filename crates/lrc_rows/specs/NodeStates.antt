@@ -74,6 +74,10 @@ offline_in states s nodes = count_by (λ n. not (states.online n.number) && stat
 abbrev pub is_on_several_offline : NodeStates → StripeNo → Bool
 is_on_several_offline states s = nat_lt 1 (offline_in states s states.nodes)
 
+-- more than two nodes are not online and have a home of the stripe
+abbrev pub is_on_many_offline : NodeStates → StripeNo → Bool
+is_on_many_offline states s = nat_lt 2 (offline_in states s states.nodes)
+
 -- these are offline nodes, and all of them that have a home of a stripe
 pub record AreOffline (states : NodeStates) (numbers : List NodeNo) : Type 0 where
   pub offline : (n : NodeNo) → list_any (same_node n) numbers ≡ true → states.online n ≡ false

@@ -4,10 +4,12 @@
 
 mod node_table;
 mod offline_nodes;
+mod offline_stripes;
 mod row;
 mod rows;
 
 pub use node_table::NodeTable;
 pub use offline_nodes::OfflineNodes;
+pub use offline_stripes::OfflineStripes;
 pub use row::Row;
 pub use rows::Rows;

@@ -1,8 +1,9 @@
 -- A stripe that an upgrade would lose is short: it misses several fragments, and it needs a lease or has homes on several nodes that are not online.
-use Rattle.std.proofs.Common.{[], ◌≡◌, ◌≢◌, ◌⊎◌, ℕ, ◌+◌, ◌-◌, ◌≤◌, ◌<◌, inl, inr, Bool, true, false, not, ◌&&◌, ◌||◌, nat_le, cond, List, ◌∷◌, map, ap₂, Option, Some, None, option_map, ap₂, IsFalse, IsSomeAnd, arith, refl, sym, ap, ap₂, ◌∙◌, subst}
-use Rattle.std.specs.List.{Contains, count_by}
+use Rattle.std.proofs.Common.{[], ◌≡◌, ◌≢◌, ◌⊎◌, ℕ, ◌+◌, ◌-◌, ◌≤◌, ◌<◌, inl, inr, Bool, true, false, not, ◌&&◌, ◌||◌, nat_lt, nat_le, cond, List, ◌∷◌, map, ap₂, Option, Some, None, option_map, ap₂, IsFalse, IsSomeAnd, arith, refl, sym, ap, ap₂, ◌∙◌, subst}
+use Rattle.std.specs.List.{Contains, AllPairs, count_by}
 use Rattle.std.specs.Option.{option_map_or}
 use Rattle.std.proofs.lemmas.Bool.{cases_Bool, eqb-true, eq-eqb, ltb-false, leb-false, le-leb, ltb-true, not-true, and_parts, and_cases, and_from}
+use Rattle.std.proofs.lemmas.Option.{same_Some}
 use Rattle.std.proofs.lemmas.List.Elements.{All-contains, Contains-append_left}
 use Rattle.std.proofs.lemmas.List.Sums.{sum_by-cons}
 use Rattle.lrc_code.specs.declared.codes.Class.{Class}
@@ -23,7 +24,8 @@ use Rattle.lrc_topology.specs.declared.seat.Seat.{Seat}
 use Rattle.lrc_topology.specs.declared.seat.Held.{Held}
 use Rattle.lrc_topology.specs.Nodes.{node_at}
 use Rattle.lrc_terms.specs.Levels.{home_of, homes_of, missing_in, needs_in, has_some}
-use Rattle.lrc_stripes.specs.Stored.{is_home_on, has_work}
+use Rattle.lrc_nodes.specs.States.{online_in}
+use Rattle.lrc_stripes.specs.Stored.{Stored, is_home_on, has_work}
 use Rattle.lrc_stripes.specs.Upgrades.{is_stripe_on, offline_count, misses_several, IsFirstLostTo, IsFirstShortLostTo, is_short_lost_to}
 use Rattle.lrc_terms.proofs.LevelLemmas.{has_some-false}
 use Rattle.lrc_terms.specs.declared.mode.Mode.TheVariants.{Gone}
@@ -32,25 +34,26 @@ use Rattle.lrc_rules.specs.Repairs.{is_safe}
 use Rattle.lrc_rules.specs.Goodness.{AreSeated, IsStanding}
 use Rattle.lrc_rules.specs.Steps.{with_upgrading, is_lost_to}
 use Rattle.lrc_store.specs.Stores.{stored_of}
-use Rattle.lrc_rules.proofs.MemberLemmas.{not-Contains-nil, Contains-cases, find-member, list_any-member, count-none, map-member}
+use Rattle.lrc_rules.proofs.MemberLemmas.{not-Contains-nil, Contains-cases, find-member, list_any-member, none-count, All-members, map-member}
 use Rattle.lrc_rules.proofs.SeatingLemmas.{fragments-distinct}
 use Rattle.lrc_bars.proofs.FragmentListLemmas.{all-fragments}
 use Rattle.lrc_rules.proofs.SafeUpgradeLemmas.{at_most_one, pairs-by, class-one, IsOn, nodes-apart, added, no_two}
 use Rattle.lrc_store.proofs.NodeStateLemmas.{infos-kept, online-kept, work-kept}
 use Rattle.lrc_store.proofs.UpgradeLemmas.{lost-as}
+use Rattle.lrc_store.proofs.DomainLemmas.{domain-out}
 use Rattle.lrc_rules.proofs.LookUpLemmas.{found-home}
 use Rattle.lrc_stripes.specs.Upgrades as upgrades
 
 -- ---- counting
 
--- a set that is covered by two others has no more than both
-count-parts : (m a b : FragmentSet) → ((k : ℕ) → m k ≡ true → a k ≡ false → b k ≡ true) → (xs : List ℕ) → count_by m xs ≤ count_by a xs + count_by b xs
+-- what is covered by two tests passes no more often than both
+count-parts : {X : Type 0} (m a b : X → Bool) → ((k : X) → m k ≡ true → a k ≡ false → b k ≡ true) → (xs : List X) → count_by m xs ≤ count_by a xs + count_by b xs
 count-parts m a b covered [] = omega arith
-count-parts m a b covered (x ∷ xs) =
+count-parts {X} m a b covered (x ∷ xs) =
     let rest = count-parts m a b covered xs in
-    let whole = sum_by-cons (λ (k : ℕ). cond (m k) 1 0) x xs in
-    let one = sum_by-cons (λ (k : ℕ). cond (a k) 1 0) x xs in
-    let other = sum_by-cons (λ (k : ℕ). cond (b k) 1 0) x xs in
+    let whole = sum_by-cons (λ (k : X). cond (m k) 1 0) x xs in
+    let one = sum_by-cons (λ (k : X). cond (a k) 1 0) x xs in
+    let other = sum_by-cons (λ (k : X). cond (b k) 1 0) x xs in
     let own = here (m x) (a x) (b x) (covered x) in
     omega (arith, rest, whole, one, other, own)
   where
@@ -60,42 +63,56 @@ count-parts m a b covered (x ∷ xs) =
     here true false true c = omega arith
     here true false false c = absurd (let clash = c refl refl in cc)
 
--- two different elements that pass a test are counted
-two-counted : {X : Type 0} (test : X → Bool) (xs : List X) (a b : X) → Contains xs a → Contains xs b → a ≢ b → test a ≡ true → test b ≡ true
-    → count_by test xs ≤ 1 → ⊥
-two-counted test [] a b here there other p q few = not-Contains-nil a here
-two-counted {X} test (x ∷ xs) a b here there other p q few =
-    let parts = sum_by-cons (λ (y : X). cond (test y) 1 0) x xs in
-    elim (cases_Bool (test x)) [
-      | inl hit ↦
-          let own : ◌≡◌ {A = ℕ} (cond (test x) 1 0) 1 = rw hit refl in
-          let none = count-none test xs (omega (arith, parts, own, few)) in
-          let later : (y : X) → Contains xs y → test y ≡ true → ⊥ = λ y listed passes.
-          (let clash : true ≡ false = sym passes ∙ All-contains (λ (z : X). test z ≡ false) xs y none listed in cc) in
-          elim (Contains-cases x a xs here) [
-            | inr behind ↦ later a behind p
-            | inl first ↦ elim (Contains-cases x b xs there) [
-              | inr behind ↦ later b behind q
-              | inl second ↦ other (sym first ∙ second)
-            ]
-          ]
+missed : (b : Bool) → (b ≡ true → ⊥) → b ≡ false
+missed true never = absurd (never refl)
+missed false never = refl
+
+-- where what passes a test is on different elements of a list, each of which is counted, no more pass than are counted
+count-places : {X Y : Type 0} (test : X → Bool) (on : X → Y → Bool) (counted : Y → Bool) (xs : List X) → AllPairs (λ a b. a ≢ b) xs → (ys : List Y)
+    → ((x : X) → test x ≡ true → (y : Y) × Contains ys y × (on x y ≡ true)) → ((x : X) (y : Y) → test x ≡ true → on x y ≡ true → counted y ≡ true)
+    → ((a b : X) (y : Y) → a ≢ b → test a ≡ true → test b ≡ true → on a y ≡ true → on b y ≡ true → ⊥) → count_by test xs ≤ count_by counted ys
+count-places {X} test on counted xs distinct [] place counts apart =
+    let none = none-count test xs (All-members (λ (x : X). test x ≡ false) xs (λ x inside. missed (test x) (λ hit. not-Contains-nil (place x hit).0 (place x hit).1))) in omega (arith, none)
+count-places {X} {Y} test on counted xs distinct (y ∷ ys) place counts apart =
+    let here : X → Bool = λ x. test x && on x y in
+    let other : X → Bool = λ x. test x && not (on x y) in
+    let split = count-parts test here other (λ x hit miss. not-here (test x) (on x y) hit miss) xs in
+    let one = at_most_one here xs (pairs-by (λ (a b : X). here a ≡ true → here b ≡ true → ⊥) xs distinct
+    (λ a b inside also differ p q. apart a b y differ (and_parts (test a) (on a y) p).0 (and_parts (test b) (on b y) q).0 (and_parts (test a) (on a y) p).1 (and_parts (test b) (on b y) q).1)) in
+    let own : count_by here xs ≤ cond (counted y) 1 0 = elim (cases_Bool (counted y)) [
+      | inl hit ↦ rw hit one
       | inr miss ↦
-          let own : ◌≡◌ {A = ℕ} (cond (test x) 1 0) 0 = rw miss refl in
-          let not-here : (y : X) → Contains (x ∷ xs) y → test y ≡ true → Contains xs y = λ y listed passes. behind y (Contains-cases x y xs listed) passes miss in
-          two-counted test xs a b (not-here a here p) (not-here b there q) other p q (omega (arith, parts, own, few))
-    ]
+          let none = none-count here xs (All-members (λ (x : X). here x ≡ false) xs (λ x inside. missed (here x) (λ p.
+          (let clash : true ≡ false = sym (counts x y (and_parts (test x) (on x y) p).0 (and_parts (test x) (on x y) p).1) ∙ miss in cc)))) in
+          rw miss (omega (arith, none))
+    ] in
+    let later = count-places other on counted xs distinct ys (λ x p. left x p (place x (and_parts (test x) (not (on x y)) p).0))
+    (λ x z p at. counts x z (and_parts (test x) (not (on x y)) p).0 at)
+    (λ a b z differ p q at also. apart a b z differ (and_parts (test a) (not (on a y)) p).0 (and_parts (test b) (not (on b y)) q).0 at also) in
+    let parts = sum_by-cons (λ (z : Y). cond (counted z) 1 0) y ys in
+    omega (arith, split, own, later, parts)
   where
-    behind : (y : X) → (x ≡ y) ⊎ Contains xs y → test y ≡ true → test x ≡ false → Contains xs y
-    behind y (inr listed) passes miss = listed
-    behind y (inl same) passes miss = absurd (let clash : true ≡ false = sym passes ∙ (ap test (sym same) ∙ miss) in cc)
+    not-here : (p q : Bool) → p ≡ true → (p && q) ≡ false → (p && not q) ≡ true
+    not-here true true hit miss = absurd (cc)
+    not-here true false hit miss = refl
+    not-here false q hit miss = absurd (cc)
+
+    left : (x : X) → (test x && not (on x y)) ≡ true → (z : Y) × Contains (y ∷ ys) z × (on x z ≡ true) → (z : Y) × Contains ys z × (on x z ≡ true)
+    left x p (z, inside, at) = elim (Contains-cases y z ys inside) [
+      | inr behind ↦ (z, behind, at)
+      | inl first ↦ absurd (let clash : true ≡ false = sym at ∙ (ap (on x) (sym first) ∙ not-true _ (and_parts (test x) (not (on x y)) p).1) in cc)
+    ]
 
 few-in_all : (a b g a1 b1 g1 a0 b0 g0 : ℕ) → a ≤ a1 + a0 → b ≤ b1 + b0 → g ≤ g1 + g0 → a1 ≤ 1 → b1 ≤ 1 → g1 ≤ 1 → a0 + b0 + g0 ≤ 1 → (a - 1) + (b - 1) + g ≤ 2
 few-in_all a b g a1 b1 g1 a0 b0 g0 x y z p q r few = omega (arith, x, y, z, p, q, r, few)
 
--- ---- a stripe without work, with homes on at most one node that is not online
+two-in_all : (a b g a1 b1 g1 a0 b0 g0 : ℕ) → a ≤ a1 + a0 → b ≤ b1 + b0 → g ≤ g1 + g0 → a1 ≤ 1 → b1 ≤ 1 → g1 ≤ 0 → a0 + b0 + g0 ≤ 2 → (a - 1) + (b - 1) + g ≤ 2
+two-in_all a b g a1 b1 g1 a0 b0 g0 x y z p q r few = omega (arith, x, y, z, p, q, r, few)
+
+-- ---- a stripe without work
 
 module _ (nodes : List NodeInfo) (st : State) (spare : ℕ) (s : StripeNo) (seated : AreSeated nodes st) (there : has_stripe st s ≡ true)
-    (idle : has_work (stored_of nodes st spare) s ≡ false) (few : offline_count (stored_of nodes st spare) s ≤ 1) where
+    (idle : has_work (stored_of nodes st spare) s ≡ false) where
   -- the fragment's home is on a node that is not online
   record IsAway (f : ℕ) : Type 0 where
     pub on : IsOn nodes st s seated f
@@ -139,61 +156,90 @@ module _ (nodes : List NodeInfo) (st : State) (spare : ℕ) (s : StripeNo) (seat
   abbrev counted : NodeInfo → Bool
   counted n = not (online_at nodes st n.number) && is_stripe_on (stored_of nodes st spare) n.number s
 
-  few-counted : count_by counted nodes ≤ 1
-  few-counted =
-      subst (λ (k : ℕ). k ≤ 1)
-      (ap₂ (λ (online : NodeNo → Bool) (ns : List NodeInfo). count_by (λ n. not (online n.number) && is_stripe_on (stored_of nodes st spare) n.number s) ns) (online-kept nodes st) (infos-kept st nodes)) few
+  counted-all : count_by counted nodes ≡ offline_count (stored_of nodes st spare) s
+  counted-all =
+      sym (ap₂ (λ (online : NodeNo → Bool) (ns : List NodeInfo). count_by (λ n. not (online n.number) && is_stripe_on (stored_of nodes st spare) n.number s) ns) (online-kept nodes st) (infos-kept st nodes))
+
+  -- the fragment's home is on the node
+  abbrev is_on : Fragment → NodeInfo → Bool
+  is_on f n = is_home_on (stored_of nodes st spare) n.number (s, f)
 
   own-number : (f : ℕ) (t : IsAway f) → (t.on.home.seat.node ≡ t.on.node.number) × Contains nodes t.on.node
   own-number f t =
       let found = find-member (λ (n : NodeInfo). same_node t.on.home.seat.node n.number) nodes t.on.node t.on.at in
       (equal_nodes t.on.home.seat.node t.on.node.number (eqb-true _ _ found.1), found.0)
 
-  is-counted : (f : Fragment) (t : IsAway f.value) → counted t.on.node ≡ true
-  is-counted f t =
-      let number = (own-number f.value t).0 in
-      let seated_here : is_home_on (stored_of nodes st spare) t.on.node.number (s, f) ≡ true =
-      ap (λ (o : Option Held). option_map_or (λ (seat : Seat). same_node t.on.node.number seat.node) (option_map (λ (h : Held). h.seat) o) false) t.on.found
-      ∙ eq-eqb _ _ (ap (λ (n : NodeNo). n.value) (sym number)) in
-      and_from _ _ (ap not (ap (online_at nodes st) (sym number) ∙ t.off))
-      (list_any-member (λ (g : Fragment). is_home_on (stored_of nodes st spare) t.on.node.number (s, g)) (fragments Wide) f (all-fragments f) seated_here)
+  is_on-as : (f : Fragment) (n : NodeInfo) (t : IsAway f.value) → is_on f n ≡ same_node n.number t.on.home.seat.node
+  is_on-as f n t = ap (λ (o : Option Held). option_map_or (λ (seat : Seat). same_node n.number seat.node) (option_map (λ (h : Held). h.seat) o) false) t.on.found
 
-  one-now : (f g : Fragment) → f ≢ g → missing nodes st s f.value ≡ true → missing nodes st s g.value ≡ true → ⊥
-  one-now f g other here also =
+  on-number : (f : Fragment) (n : NodeInfo) (t : IsAway f.value) → is_on f n ≡ true → n.number ≡ t.on.home.seat.node
+  on-number f n t hit = equal_nodes n.number t.on.home.seat.node (eqb-true _ _ (sym (is_on-as f n t) ∙ hit))
+
+  is-counted : (f : Fragment) (n : NodeInfo) → missing nodes st s f.value ≡ true → is_on f n ≡ true → counted n ≡ true
+  is-counted f n gone hit =
+      let t = away f.value gone in
+      and_from _ _ (ap not (ap (online_at nodes st) (on-number f n t hit) ∙ t.off))
+      (list_any-member (λ (g : Fragment). is_home_on (stored_of nodes st spare) n.number (s, g)) (fragments Wide) f (all-fragments f) hit)
+
+  placed : (f : Fragment) → missing nodes st s f.value ≡ true → (n : NodeInfo) × Contains nodes n × (is_on f n ≡ true)
+  placed f gone =
+      let t = away f.value gone in
+      let own = own-number f.value t in
+      (t.on.node, own.1, is_on-as f t.on.node t ∙ eq-eqb _ _ (ap (λ (n : NodeNo). n.value) (sym own.0)))
+
+  one-each : (f g : Fragment) (n : NodeInfo) → f ≢ g → missing nodes st s f.value ≡ true → missing nodes st s g.value ≡ true → is_on f n ≡ true → is_on g n ≡ true → ⊥
+  one-each f g n other here also hit too =
       let t = away f.value here in
       let v = away g.value also in
       let apart = nodes-apart nodes st s seated f g other t.on v.on in
-      two-counted counted nodes t.on.node v.on.node (own-number f.value t).1 (own-number g.value v).1
-      (λ same. apart.faults (ap (λ (n : NodeInfo). n.fault) same)) (is-counted f t) (is-counted g v) few-counted
+      let same : t.on.node ≡ v.on.node =
+      same_Some t.on.node v.on.node (sym t.on.at ∙ (ap (node_at nodes) (sym (on-number f n t hit) ∙ on-number g n v too) ∙ v.on.at)) in
+      apart.faults (ap (λ (x : NodeInfo). x.fault) same)
 
-  pub few-now : size_of code (missing nodes st s) ≤ 1
+  -- no more fragments are missing than it has homes on nodes that are not online
+  pub few-now : size_of code (missing nodes st s) ≤ offline_count (stored_of nodes st spare) s
   few-now =
-      at_most_one (λ (f : Fragment). missing nodes st s f.value) (fragments code)
-      (pairs-by (λ (f g : Fragment). missing nodes st s f.value ≡ true → missing nodes st s g.value ≡ true → ⊥) (fragments code)
-      (fragments-distinct code) (λ f g here also other. one-now f g other))
+      subst (λ (k : ℕ). size_of code (missing nodes st s) ≤ k) counted-all
+      (count-places (λ (f : Fragment). missing nodes st s f.value) is_on counted (fragments code) (fragments-distinct code) nodes placed is-counted one-each)
 
--- ---- a stripe that misses at most one fragment
+-- ---- a stripe that misses few fragments
 
-module _ (nodes : List NodeInfo) (st : State) (s : StripeNo) (seated : AreSeated nodes st) (few-now : size_of (code_of st s) (missing nodes st s) ≤ 1) (u : UpgradeNo) where
+module _ (nodes : List NodeInfo) (st : State) (s : StripeNo) (seated : AreSeated nodes st) (u : UpgradeNo) where
+  abbrev here : Code
+  here = code_of st s
+
+  abbrev now : FragmentSet
+  now = missing nodes st s
+
   abbrev then : FragmentSet
   then = missing nodes (with_upgrading st u) s
 
-  covered : (k : ℕ) → then k ≡ true → added nodes st u s seated k ≡ false → missing nodes st s k ≡ true
-  covered k hit miss = by (missing nodes st s k) (sym (ap (λ b. not (missing nodes st s k) && b) hit) ∙ miss) where
+  abbrev new : FragmentSet
+  new = added nodes st u s seated
+
+  covered : (k : ℕ) → then k ≡ true → new k ≡ false → now k ≡ true
+  covered k hit miss = by (now k) (sym (ap (λ b. not (now k) && b) hit) ∙ miss) where
     by : (b : Bool) → (not b && true) ≡ false → b ≡ true
     by true e = refl
     by false e = absurd (cc)
 
-  -- the upgrade leaves it recoverable
-  pub few-then : excess (code_of st s) then ≤ 2
-  few-then =
-      let code = code_of st s in
-      let new = added nodes st u s seated in
-      let now = missing nodes st s in
-      let part : (c : Class) → losses_in code c then ≤ losses_in code c new + losses_in code c now = λ c. count-parts then new now covered (members code c) in
-      let one : (c : Class) → losses_in code c new ≤ 1 = class-one code new (no_two nodes st u s seated) in
-      few-in_all _ _ _ (losses_in code A new) (losses_in code B new) (losses_in code G new) (losses_in code A now) (losses_in code B now) (losses_in code G now)
-      (part A) (part B) (part G) (one A) (one B) (one G) (subst (λ (n : ℕ). n ≤ 1) (size_of-classes code now) few-now)
+  part : (c : Class) → losses_in here c then ≤ losses_in here c new + losses_in here c now
+  part c = count-parts then new now covered (members here c)
+
+  one : (c : Class) → losses_in here c new ≤ 1
+  one = class-one here new (no_two nodes st u s seated)
+
+  -- where it misses at most one, the upgrade leaves it recoverable
+  pub few-then : size_of here now ≤ 1 → excess here then ≤ 2
+  few-then few =
+      few-in_all _ _ _ (losses_in here A new) (losses_in here B new) (losses_in here G new) (losses_in here A now) (losses_in here B now) (losses_in here G now)
+      (part A) (part B) (part G) (one A) (one B) (one G) (subst (λ (n : ℕ). n ≤ 1) (size_of-classes here now) few)
+
+  -- and where it misses at most two, and the upgrade takes no global parity
+  pub two-then : size_of here now ≤ 2 → losses_in here G new ≤ 0 → excess here then ≤ 2
+  two-then few none =
+      two-in_all _ _ _ (losses_in here A new) (losses_in here B new) (losses_in here G new) (losses_in here A now) (losses_in here B now) (losses_in here G now)
+      (part A) (part B) (part G) (one A) (one B) none (subst (λ (n : ℕ). n ≤ 2) (size_of-classes here now) few)
 
 -- ---- the stripes that are lost
 
@@ -209,22 +255,40 @@ module _ (nodes : List NodeInfo) (st : State) (spare : ℕ) (seated : AreSeated 
       let below = leb-false 2 (size_of (code_of st s) (missing nodes st s)) more in
       omega (arith, below)
 
-  -- a stripe that is not short misses at most one fragment
-  few-missing : (s : StripeNo) → has_stripe st s ≡ true → upgrades.is_short (stored_of nodes st spare) s ≡ false → size_of (code_of st s) (missing nodes st s) ≤ 1
+  -- the fragments that the domain takes
+  loses-as : (s : StripeNo) → upgrades.loses_global (stored_of nodes st spare) u s ≡ nat_lt 0 (losses_in (code_of st s) G (added nodes st u s seated))
+  loses-as s =
+      ap (λ (t : Stored). nat_lt 0 (losses_in (code_of st s) G (λ f. not (missing_in (code_of st s) (online_in (stored_of nodes st spare).nodes) (homes_of st.homes s) f) && missing_in (code_of st s) (online_in t.nodes) (homes_of st.homes s) f)))
+      (domain-out nodes st u none spare)
+      ∙ ap₂ (λ (now later : NodeNo → Bool). nat_lt 0 (losses_in (code_of st s) G (λ f. not (missing_in (code_of st s) now (homes_of st.homes s) f) && missing_in (code_of st s) later (homes_of st.homes s) f)))
+      (online-kept nodes st) (online-kept nodes (with_upgrading st u))
+
+  -- a stripe that is not short stays recoverable
+  few-after : (s : StripeNo) → has_stripe st s ≡ true → upgrades.is_short (stored_of nodes st spare) u s ≡ false
+      → excess (code_of st s) (missing nodes (with_upgrading st u) s) ≤ 2
   unfolding upgrades.is_short
-  few-missing s there e = elim (and_cases _ _ e) [
-    | inl none ↦ let miss = or_false _ _ none in few-now nodes st spare s seated there miss.1 (ltb-false _ _ miss.0)
-    | inr few ↦ few-misses s few
+  few-after s there e = elim (and_cases _ _ e) [
+    | inl none ↦
+        let unsure = or_false _ _ none in
+        let idle = or_false _ _ unsure.0 in
+        let count = few-now nodes st spare s seated there idle.1 in
+        elim (and_cases _ _ unsure.1) [
+          | inl miss ↦ let most = ltb-false 1 (offline_count (stored_of nodes st spare) s) miss in few-then nodes st s seated u (omega (arith, count, most))
+          | inr kept ↦
+              let most = ltb-false 2 (offline_count (stored_of nodes st spare) s) idle.0 in
+              two-then nodes st s seated u (omega (arith, count, most)) (ltb-false _ _ (sym (loses-as s) ∙ kept))
+        ]
+    | inr few ↦ few-then nodes st s seated u (few-misses s few)
   ]
 
   -- a stripe that is lost is short
-  lost-short : (s : StripeNo) → upgrades.is_lost_to (stored_of nodes st spare) u s ≡ true → upgrades.is_short (stored_of nodes st spare) s ≡ true
-  lost-short s lost = by (upgrades.is_short (stored_of nodes st spare) s) refl where
-    by : (b : Bool) → upgrades.is_short (stored_of nodes st spare) s ≡ b → upgrades.is_short (stored_of nodes st spare) s ≡ true
+  lost-short : (s : StripeNo) → upgrades.is_lost_to (stored_of nodes st spare) u s ≡ true → upgrades.is_short (stored_of nodes st spare) u s ≡ true
+  lost-short s lost = by (upgrades.is_short (stored_of nodes st spare) u s) refl where
+    by : (b : Bool) → upgrades.is_short (stored_of nodes st spare) u s ≡ b → upgrades.is_short (stored_of nodes st spare) u s ≡ true
     by true e = e
     by false e = absurd (
         let parts = and_parts (has_stripe st s) (is_lost_to nodes st u s) (sym (lost-as nodes st u none spare s) ∙ lost) in
-        let few = few-then nodes st s seated (few-missing s parts.0 e) u in
+        let few = few-after s parts.0 e in
         let clash : true ≡ false = sym (le-leb _ _ few) ∙ not-true _ (and_parts (is_safe nodes st s) _ parts.1).1 in cc)
 
   lost-either : (s : StripeNo) → is_short_lost_to (stored_of nodes st spare) u s ≡ false → upgrades.is_lost_to (stored_of nodes st spare) u s ≡ false
@@ -236,7 +300,7 @@ module _ (nodes : List NodeInfo) (st : State) (spare : ℕ) (seated : AreSeated 
   -- so the first short one that is lost is the first that is
   pub short-first : (s : StripeNo) → IsFirstShortLostTo (stored_of nodes st spare) u s → IsFirstLostTo (stored_of nodes st spare) u s
   short-first s is = record {
-    lost = (and_parts (upgrades.is_short (stored_of nodes st spare) s) _ is.lost).1;
+    lost = (and_parts (upgrades.is_short (stored_of nodes st spare) u s) _ is.lost).1;
     first = λ r lower. lost-either r (is.first r lower);
   }
 

@@ -4,10 +4,11 @@ ghost use Rattle.std.specs.Prelude.{◌≡◌, ◌&&◌, ◌||◌, true, false, 
 ghost use Rattle.lrc_code.specs.declared.numbers.NodeNo.{NodeNo as AnyNode};
 ghost use Rattle.lrc_code.specs.declared.numbers.StripeNo.{StripeNo as AnyStripe};
 ghost use Rattle.lrc_ranks.specs.Sets.{has};
-ghost use Rattle.lrc_rows.specs.NodeStates.{states_in, is_on_several_offline, AreOffline};
+ghost use Rattle.lrc_rows.specs.NodeStates.{states_in, is_on_several_offline, is_on_many_offline, AreOffline};
 
 use crate::node_table::NodeTable;
 use crate::offline_nodes::OfflineNodes;
+use crate::offline_stripes::OfflineStripes;
 use lrc_code::{NodeNo, StripeNo};
 use lrc_ranks::StripeSet;
 
@@ -102,31 +103,33 @@ impl NodeTable {
     }
 
     /// The stripes with homes on several offline nodes.
-    pub fn stripes_on_several_offline(&self) -> StripeSet
-        ensures { has result ≡ is_on_several_offline (states_in self.now) }
+    pub fn stripes_on_several_offline(&self) -> OfflineStripes
+        ensures several { has result.several ≡ is_on_several_offline (states_in self.now) }
+        ensures many { has result.many ≡ is_on_many_offline (states_in self.now) }
     {
         if self.are_few_offline() {
-            return StripeSet::new();
+            return OfflineStripes::new();
         }
-        let mut once = StripeSet::new();
-        let mut twice = StripeSet::new();
+        let mut any = StripeSet::new();
+        let mut found = OfflineStripes::new();
         let mut from = 0;
         while let Some(position) = self.nodes.first_offline_from(from) {
-            self.count(self.nodes.node_at(position).number, &mut once, &mut twice);
+            self.count(self.nodes.node_at(position).number, &mut any, &mut found);
             from = position + 1;
         }
-        twice
+        found
     }
 
-    /// Adds the stripes with a home on the node to `once`, and those that are there already to `twice`.
-    fn count(&self, number: NodeNo, once: &mut StripeSet, twice: &mut StripeSet)
-        ensures once { has once.new ≡ λ s. has once.old s || (states_in self.now).on number s }
-        ensures twice { has twice.new ≡ λ s. has twice.old s || (has once.old s && (states_in self.now).on number s) }
+    /// Adds the stripes with a home on the node to `any`, and counts those that are there already.
+    fn count(&self, number: NodeNo, any: &mut StripeSet, found: &mut OfflineStripes)
+        ensures any { has any.new ≡ λ s. has any.old s || (states_in self.now).on number s }
+        ensures several { has found.new.several ≡ λ s. has found.old.several s || (has any.old s && (states_in self.now).on number s) }
+        ensures many { has found.new.many ≡ λ s. has found.old.many s || (has found.old.several s && (states_in self.now).on number s) }
     {
         if let Some(position) = self.position(number) {
             let set = &self.stripes[position];
-            twice.insert_common(once, set);
-            once.insert_all(set);
+            found.add(any, set);
+            any.insert_all(set);
         }
     }
 }

@@ -110,9 +110,10 @@ impl Stripes {
     }
 
     /// The lowest-numbered short stripe that is recoverable now, and would not be with the nodes of this upgrade domain
-    /// offline; `None` without such a stripe. A stripe is short if several of its fragments are missing, and it has homes on
-    /// several offline nodes or a fragment that needs a lease. If the homes of each stripe are in different fault domains,
-    /// and those of each class in different upgrade domains, an upgrade can make no other stripe unrecoverable.
+    /// offline; `None` without such a stripe. A stripe is short if several of its fragments are missing, and one needs a lease,
+    /// or it has homes on more than two offline nodes, or on two, and the domain takes a global parity. If the homes of each
+    /// stripe are in different fault domains, and those of each class in different upgrade domains, an upgrade can make no
+    /// other stripe unrecoverable.
     pub fn would_lose_short(&self, domain: UpgradeNo) -> Option<StripeNo>
         ensures found { IfSome result (IsFirstShortLostTo (stored_in self.now) domain) }
         ensures none { IfNone result ((s : StripeNo) → IsFalse (is_short_lost_to (stored_in self.now) domain s)) }

@@ -4,12 +4,13 @@ use Rattle.lrc_rows.specs.NodeStates.{states_in}
 use Rattle.lrc_rows.proofs.ShortLemmas.{counted}
 use Rattle.lrc_rows.proofs.node_table.NodeTable.stripes_on_several_offline.Given as goal
 
--- the sets have the stripes with homes on one, and on two, of the nodes so far that are not online
+-- the sets have the stripes with homes on one, on two and on three of the nodes so far that are not online
 abbrev pub invariant-loop-position : goal.invariant-loop-position
 invariant-loop-position l = record {
   within : l.from ≤ length l.self-inside.nodes;
-  one : has l.once ≡ λ s. nat_lt 0 (counted (states_in l.self) s (take l.from l.self-inside.nodes));
-  two : has l.twice ≡ λ s. nat_lt 1 (counted (states_in l.self) s (take l.from l.self-inside.nodes));
+  one : has l.any ≡ λ s. nat_lt 0 (counted (states_in l.self) s (take l.from l.self-inside.nodes));
+  two : has l.found.several ≡ λ s. nat_lt 1 (counted (states_in l.self) s (take l.from l.self-inside.nodes));
+  three : has l.found.many ≡ λ s. nat_lt 2 (counted (states_in l.self) s (take l.from l.self-inside.nodes));
 }
 
 abbrev pub decreases-loop-position : goal.decreases-loop-position
