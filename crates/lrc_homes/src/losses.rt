@@ -1,5 +1,5 @@
 ghost use Rattle.std.specs.Prelude.{◌≡◌, ◌<◌, ◌≤◌, IfSome};
-ghost use Rattle.lrc_code.specs.Losses.{bits_set};
+ghost use Rattle.lrc_code.specs.Losses.{bits_set, margin_of};
 ghost use Rattle.lrc_terms.specs.Levels.{level_by};
 ghost use Rattle.lrc_homes.specs.Masks.{AreAll, IsPut, level_of, rank_of, work_rank, risk_rank};
 
@@ -122,7 +122,19 @@ impl Losses {
         ensures value { result ≡ rank_of self }
         ensures few { result ≤ 4 }
     {
-        self.missing.margin_in(self.code).unwrap_or(4)
+        margin_in(self.code, self.missing).unwrap_or(4)
+    }
+}
+
+/// The margin of a stripe of the code with these missing fragments; `None` if they are not recoverable. Each branch has the
+/// numbers of its own code.
+fn margin_in(code: Code, missing: LossMask) -> Option<u8>
+    ensures value { result ≡ margin_of code (bits_set missing.bits) }
+    ensures few { IfSome result (λ t. t ≤ 3) }
+{
+    match code {
+        Code::Wide => missing.margin_in(Code::Wide),
+        Code::Narrow => missing.margin_in(Code::Narrow),
     }
 }
 
