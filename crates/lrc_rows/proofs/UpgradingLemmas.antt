@@ -1,8 +1,9 @@
 -- The masks of the rows where the nodes of an upgrade domain have come online or gone offline.
-use Rattle.std.proofs.Common.{◌≡◌, ◌≢◌, ℕ, ◌<◌, Bool, true, false, not, ◌&&◌, if◌then◌else◌, nat_lt, nat_eq, List, get_or, Option, Some, None, is_none, is_some, option_map, refl, sym, ap, ap₂, ◌∙◌, subst}
+use Rattle.std.proofs.Common.{◌≡◌, ◌≢◌, ℕ, ◌<◌, Bool, true, false, not, ◌&&◌, if◌then◌else◌, nat_lt, nat_eq, List, length, get_or, Option, Some, None, is_none, is_some, option_map, arith, inl, inr, refl, sym, ap, ap₂, ◌∙◌, subst}
 use Rattle.std.specs.Option.{option_map_or}
 use Rattle.std.specs.List.{list_any}
-use Rattle.std.proofs.lemmas.Bool.{eqb-true, lt-ltb}
+use Rattle.std.proofs.lemmas.Bool.{cases_Bool, eqb-true, eq-eqb, lt-ltb, not-true}
+use Rattle.std.proofs.lemmas.List.Folds.{list_any_at}
 use Rattle.std.proofs.lemmas.Nat.Bits.{bit_at-zero}
 use Rattle.lrc_code.specs.declared.codes.Code.{Code}
 use Rattle.lrc_code.specs.declared.losses.LossMask.{LossMask}
@@ -25,8 +26,8 @@ use Rattle.lrc_homes.specs.Homes.{sits_on, is_missing, is_to_move}
 use Rattle.lrc_homes.specs.Masks.{AreWithin, IsMaskOf, AreKept, renewed}
 use Rattle.lrc_homes.proofs.MaskLemmas.{has-low}
 use Rattle.lrc_rows.specs.declared.row.Row.{Row}
-use Rattle.lrc_rows.specs.NodeStates.{NodeStates, NodeLists, states_in, is_in_domain, AreAlikeOutside, AreFollowing}
-use Rattle.lrc_rows.specs.Kept.{IsKept, WereKept, AreRenewed, IsFollowing, IsWithLosses, is_row_on, row_has_work}
+use Rattle.lrc_rows.specs.NodeStates.{NodeStates, NodeLists, states_in, is_in_domain, is_outside, AreAlikeOutside, AreFollowing}
+use Rattle.lrc_rows.specs.Kept.{IsKept, WereKept, AreRenewed, IsFollowing, IsWithLosses, IsWithMissing, is_row_on, row_has_work}
 use Rattle.lrc_rows.proofs.FreshLemmas.{mask-is}
 use Rattle.lrc_rows.proofs.RenewLemmas.{same-of, each-of}
 
@@ -88,17 +89,44 @@ module _ (t : NodeLists) (u : UpgradeNo) (homes : List (Option Seat)) (d : HomeD
         let none : (is_beside f && is_some (get_or homes f None)) ≡ false = sym (each f) ∙ rw (empty, bit_at-zero f) refl in
         was f ∙ stays f (get_or homes f None) refl none (has_fragment code f) refl
 
-    -- all that have are missing
-    pub follows-down : ((n : NodeNo) → is_in_domain z.nodes u n ≡ true → z.online n ≡ false) → (old new : LossMask)
-        → ((f : ℕ) → bits_set new.bits f ≡ (if bits_set fragments f then true else bits_set old.bits f)) → IsMaskOf code (is_missing online) homes old → IsMaskOf code (is_missing z.online) homes new
-    follows-down down old new put was f =
-        put f ∙ (ap₂ (λ (a b : Bool). if a then true else b) (each f) (was f) ∙ by (get_or homes f None) refl (is_beside f) refl (has_fragment code f) refl) where
-          by : (home : Option Seat) → get_or homes f None ≡ home → (s : Bool) → is_beside f ≡ s → (b : Bool) → has_fragment code f ≡ b
-              → (if (s && is_some home) then true else (b && is_missing online home)) ≡ (b && is_missing z.online home)
-          by None at s stored b low = ap (λ (c : Bool). if c then true else (b && true)) (and-false s)
-          by (Some seat) at s stored false high = absurd (let clash : Some seat ≡ None = sym at ∙ within f high in cc)
-          by (Some seat) at false stored true low = stays f (Some seat) at (ap (λ (c : Bool). c && true) stored) true low
-          by (Some seat) at true stored true low = sym (ap not (inside down f seat (has-low code f low) at stored))
+    -- where all nodes of the domain are offline, or none, all that have are missing or not
+    module _ (s : StripeNo) (stands : (n : NodeNo) → list_any (sits_on n) homes ≡ true → z.on n s ≡ true) (long : length homes ≡ 16) (are_missing : Bool)
+        (down : are_missing ≡ true → (n : NodeNo) → is_in_domain z.nodes u n ≡ true → z.online n ≡ false)
+        (up : are_missing ≡ false → (n : NodeNo) → z.online n ≡ false → z.on n s ≡ true → is_outside z.nodes u n ≡ true) where
+      known : (f : ℕ) (seat : Seat) → f < 16 → get_or homes f None ≡ Some seat → is_beside f ≡ true → (o : Option NodeInfo) → node_at z.nodes seat.node ≡ o
+          → option_map_or (λ (m : NodeInfo). not (same_upgrade m.upgrade u)) o false ≡ true → ⊥
+      known f seat low home hit None at out = absurd (let clash : false ≡ true = out in cc)
+      known f seat low home hit (Some n) at out =
+          let there : same_upgrade n.upgrade u ≡ true =
+          sym (ap (λ (o : Option NodeInfo). option_map_or (λ (m : NodeInfo). same_upgrade m.upgrade u) o false) at) ∙ (stored-as f seat n low home at ∙ hit) in
+          let clash : true ≡ false = sym there ∙ not-true (same_upgrade n.upgrade u) out in cc
+
+      back : are_missing ≡ false → (f : ℕ) (seat : Seat) → f < 16 → get_or homes f None ≡ Some seat → is_beside f ≡ true → z.online seat.node ≡ true
+      back none f seat low home hit = elim (cases_Bool (z.online seat.node)) [
+        | inl on ↦ on
+        | inr off ↦
+            let within_list : f < length homes = omega (arith, low, long) in
+            let sits : sits_on seat.node (get_or homes f None) ≡ true = ap (sits_on seat.node) home ∙ eq-eqb seat.node.value seat.node.value refl in
+            absurd (known f seat low home hit (node_at z.nodes seat.node) refl
+            (up none seat.node off (stands seat.node (list_any_at (sits_on seat.node) homes f None within_list sits))))
+      ]
+
+      moved : (f : ℕ) (seat : Seat) → f < 16 → get_or homes f None ≡ Some seat → is_beside f ≡ true → are_missing ≡ not (z.online seat.node)
+      moved f seat low home hit = elim (cases_Bool are_missing) [
+        | inl all ↦ all ∙ sym (ap not (inside (down all) f seat low home hit))
+        | inr none ↦ none ∙ sym (ap not (back none f seat low home hit))
+      ]
+
+      pub follows-put : (old new : LossMask) → ((f : ℕ) → bits_set new.bits f ≡ (if bits_set fragments f then are_missing else bits_set old.bits f))
+          → IsMaskOf code (is_missing online) homes old → IsMaskOf code (is_missing z.online) homes new
+      follows-put old new put was f =
+          put f ∙ (ap₂ (λ (a b : Bool). if a then are_missing else b) (each f) (was f) ∙ by (get_or homes f None) refl (is_beside f) refl (has_fragment code f) refl) where
+            by : (home : Option Seat) → get_or homes f None ≡ home → (s : Bool) → is_beside f ≡ s → (b : Bool) → has_fragment code f ≡ b
+                → (if (s && is_some home) then are_missing else (b && is_missing online home)) ≡ (b && is_missing z.online home)
+            by None at s stored b low = ap (λ (c : Bool). if c then are_missing else (b && true)) (and-false s)
+            by (Some seat) at s stored false high = absurd (let clash : Some seat ≡ None = sym at ∙ within f high in cc)
+            by (Some seat) at false stored true low = stays f (Some seat) at (ap (λ (c : Bool). c && true) stored) true low
+            by (Some seat) at true stored true low = moved f seat (has-low code f low) at stored
 
 -- masks that are recomputed are exact
 pub follows-exact : (z : NodeStates) (u : UpgradeNo) (homes : List (Option Seat)) (before after : Losses) → after ≡ renewed z.online homes before → AreFollowing z u homes before after
@@ -114,6 +142,36 @@ follows-exact z u homes before after is = subst (λ (l : Losses). AreFollowing z
 -- the row with such losses
 pub following-put : (z : NodeStates) (u : UpgradeNo) (l : Losses) (r q : Row) → AreFollowing z u r.homes r.losses l → IsWithLosses l r q → IsFollowing z u r q
 following-put z u l r q follows put = record { homes = put.homes; losses = subst (λ (x : Losses). AreFollowing z u r.homes r.losses x) (sym put.losses) follows }
+
+-- the row whose fragments with a home in the domain are set
+pub following-missing : (t : NodeLists) (u : UpgradeNo) (r q : Row) (d : HomeDomains) (of : AreDomainsOf (states_in t).nodes (λ f. get_or r.homes f None) d) → AreWithin r.losses.code r.homes
+    → (fragments : LossMask) → ((f : ℕ) → bits_set fragments.bits f ≡ ((nat_lt f 16 && nat_eq (get_or d.upgrades f 0) u.value) && is_some (get_or r.homes f None)))
+    → (s : StripeNo) → ((n : NodeNo) → list_any (sits_on n) r.homes ≡ true → (states_in t).on n s ≡ true) → (are_missing : Bool)
+    → (are_missing ≡ true → (n : NodeNo) → is_in_domain (states_in t).nodes u n ≡ true → (states_in t).online n ≡ false)
+    → (are_missing ≡ false → (n : NodeNo) → (states_in t).online n ≡ false → (states_in t).on n s ≡ true → is_outside (states_in t).nodes u n ≡ true)
+    → IsWithMissing fragments are_missing r q → IsFollowing (states_in t) u r q
+following-missing t u r q d of within fragments each s stands are_missing down up put = record {
+  homes = put.homes;
+  losses = record {
+    code = put.code;
+    homeless = put.homeless;
+    missing = λ online alike was. follows-put t u r.homes d of r.losses.code within fragments.bits each online alike s stands r.sixteen are_missing down up r.losses.missing q.losses.missing put.missing was;
+    needs = put.needs;
+  };
+}
+
+-- the row none of whose homes is in the domain
+pub following-none : (t : NodeLists) (u : UpgradeNo) (r : Row) (d : HomeDomains) (of : AreDomainsOf (states_in t).nodes (λ f. get_or r.homes f None) d) → AreWithin r.losses.code r.homes
+    → (fragments : ℕ) → ((f : ℕ) → bits_set fragments f ≡ ((nat_lt f 16 && nat_eq (get_or d.upgrades f 0) u.value) && is_some (get_or r.homes f None))) → fragments ≡ 0 → IsFollowing (states_in t) u r r
+following-none t u r d of within fragments each empty = record {
+  homes = refl;
+  losses = record {
+    code = refl;
+    homeless = refl;
+    missing = λ online alike was. follows-none t u r.homes d of r.losses.code within fragments each online alike r.losses.missing empty was;
+    needs = refl;
+  };
+}
 
 not-false : (b : Bool) → not b ≡ false → b ≡ true
 not-false true e = refl

@@ -24,6 +24,10 @@ has_node nodes n = is_some (node_at nodes n)
 abbrev pub is_in_domain : List NodeInfo → UpgradeNo → NodeNo → Bool
 is_in_domain nodes u n = option_map_or (λ m. same_upgrade m.upgrade u) (node_at nodes n) false
 
+-- the node of this number is one of these, and outside the upgrade domain
+abbrev pub is_outside : List NodeInfo → UpgradeNo → NodeNo → Bool
+is_outside nodes u n = option_map_or (λ m. not (same_upgrade m.upgrade u)) (node_at nodes n) false
+
 -- the nodes outside the domain are online as before
 abbrev pub AreAlikeOutside : List NodeInfo → UpgradeNo → (NodeNo → Bool) → (NodeNo → Bool) → Type 0
 AreAlikeOutside nodes u before after = (n : NodeNo) → is_in_domain nodes u n ≡ false → before n ≡ after n

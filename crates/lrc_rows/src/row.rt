@@ -1,10 +1,9 @@
-ghost use Rattle.std.specs.Prelude.{◌≡◌, ℕ, if◌then◌else◌, length, replicate, true, false, None, is_none, is_some, IfSome, IfNone, ◌<◌, ◌&&◌, nat_lt, nat_eq, get_or};
+ghost use Rattle.std.specs.Prelude.{◌≡◌, ℕ, if◌then◌else◌, length, replicate, true, false, None, is_none, is_some, IfSome, ◌<◌, ◌&&◌, nat_lt, nat_eq, get_or};
 ghost use Rattle.std.specs.List.{list_any};
 ghost use Rattle.lrc_code.specs.Codes.{fragment_count};
 ghost use Rattle.lrc_code.specs.Losses.{bits_set, bits_of};
 ghost use Rattle.lrc_homes.specs.Homes.{seated_homes, sits_on, is_on_seat, is_missing};
-ghost use Rattle.lrc_rows.specs.NodeStates.{states_in, AreOffline, AreFollowing, is_in_domain};
-ghost use Rattle.lrc_homes.specs.Domains.{AreDomainsOf};
+ghost use Rattle.lrc_rows.specs.NodeStates.{states_in, AreOffline};
 ghost use Rattle.lrc_homes.specs.Masks.{AreAll, AreKept, AreWithin, IsMaskOf, renewed, missing_of};
 ghost use Rattle.lrc_code.specs.declared.numbers.NodeNo.{NodeNo as AnyNode};
 
@@ -141,39 +140,6 @@ impl Row {
         ensures homes { (f : ℕ) → bits_set result.bits f ≡ ((nat_lt f 16 && nat_eq (get_or domains.now.upgrades f 0) domain.value) && is_some (get_or self.now.homes f None)) }
     {
         LossMask::from_bits(domains.in_upgrade(domain).bits & self.homes.homed().bits)
-    }
-
-    /// The losses, exact after the nodes of an upgrade domain came online or went offline, if they were so before; `None` if no
-    /// home is in the domain, and they stay. The domains of the homes are stored.
-    #[inline(always)] // likewise
-    pub(crate) fn losses_after(
-        &self,
-        node_table: &NodeTable,
-        offline: Option<&OfflineNodes>,
-        domains: &HomeDomains,
-        domain: UpgradeNo,
-        stripe: StripeNo,
-        is_upgrading: bool,
-    ) -> Option<Losses>
-        requires within { AreWithin self.now.losses.code self.now.homes }
-        requires homeless { IsMaskOf self.now.losses.code is_none self.now.homes self.now.losses.homeless }
-        requires stands { (n : AnyNode) → list_any (sits_on n) self.now.homes ≡ true → (states_in node_table.now).on n stripe ≡ true }
-        requires offline { IfSome offline (λ o. AreOffline (states_in node_table.now) o.now) }
-        requires domains { AreDomainsOf (states_in node_table.now).nodes (λ f. get_or self.now.homes f None) domains.now }
-        requires upgrading { is_upgrading ≡ true → (n : AnyNode) → is_in_domain (states_in node_table.now).nodes domain n ≡ true → (states_in node_table.now).online n ≡ false }
-        ensures some { IfSome result (AreFollowing (states_in node_table.now) domain self.now.homes self.now.losses) }
-        ensures none { IfNone result (AreFollowing (states_in node_table.now) domain self.now.homes self.now.losses self.now.losses) }
-    {
-        let fragments = self.homes_in(domains, domain);
-        if fragments.bits == 0 {
-            return None;
-        }
-        if is_upgrading {
-            let mut losses = self.losses;
-            losses.missing = masks::put(losses.missing, fragments, true);
-            return Some(losses);
-        }
-        Some(self.losses_beside(node_table, offline, stripe))
     }
 
     /// The exact losses, after these fragments are set to need a lease or not.

@@ -4,12 +4,12 @@ ghost use Rattle.std.specs.Prelude.{◌≡◌, ◌&&◌, ◌||◌, true, false, 
 ghost use Rattle.lrc_code.specs.declared.numbers.NodeNo.{NodeNo as AnyNode};
 ghost use Rattle.lrc_code.specs.declared.numbers.StripeNo.{StripeNo as AnyStripe};
 ghost use Rattle.lrc_ranks.specs.Sets.{has};
-ghost use Rattle.lrc_rows.specs.NodeStates.{states_in, is_on_several_offline, is_on_many_offline, AreOffline};
+ghost use Rattle.lrc_rows.specs.NodeStates.{states_in, is_on_several_offline, is_on_many_offline, is_outside, AreOffline};
 
 use crate::node_table::NodeTable;
 use crate::offline_nodes::OfflineNodes;
 use crate::offline_stripes::OfflineStripes;
-use lrc_code::{NodeNo, StripeNo};
+use lrc_code::{NodeNo, StripeNo, UpgradeNo};
 use lrc_ranks::StripeSet;
 
 /// The number of offline nodes that are tried for one stripe.
@@ -74,6 +74,30 @@ impl NodeTable {
             Some(set) => set.contains(stripe),
             None => false,
         }
+    }
+
+    /// Whether it is known that the nodes of an upgrade domain are alike: all offline if it is upgrading, else all online.
+    pub(crate) fn are_alike_in(&self, domain: UpgradeNo, is_upgrading: bool) -> bool
+        ensures { result ≡ true → is_upgrading ≡ false → (n : AnyNode) (s : AnyStripe) → (states_in self.now).online n ≡ false → (states_in self.now).on n s ≡ true → is_outside (states_in self.now).nodes domain n ≡ true }
+    {
+        if is_upgrading {
+            return true;
+        }
+        self.are_online_in(domain)
+    }
+
+    /// Whether no offline node is in the upgrade domain. Then those with homes of stripes are outside.
+    fn are_online_in(&self, domain: UpgradeNo) -> bool
+        ensures { result ≡ true → (n : AnyNode) (s : AnyStripe) → (states_in self.now).online n ≡ false → (states_in self.now).on n s ≡ true → is_outside (states_in self.now).nodes domain n ≡ true }
+    {
+        let mut from = 0;
+        while let Some(position) = self.nodes.first_offline_from(from) {
+            if self.nodes.node_at(position).upgrade.value == domain.value {
+                return false;
+            }
+            from = position + 1;
+        }
+        true
     }
 
     /// The offline nodes, if they are few.

@@ -75,18 +75,18 @@ impl Rows {
         ensures { AreRenewed (has stripes.now) (IsFollowing (states_in node_table.now) domain) (rows_in self.old) (rows_in self.new) }
     {
         let offline = node_table.few_offline();
+        let are_alike = node_table.are_alike_in(domain, is_upgrading);
         let mut left = stripes.members();
         while let Some(stripe) = left.next_stripe() {
             if let Some(row) = self.get(stripe) {
-                let of_stripe = &domains[stripe.value as usize];
-                if let Some(losses) = row.losses_after(
-                    node_table,
-                    offline.as_ref(),
-                    of_stripe,
-                    domain,
-                    stripe,
-                    is_upgrading,
-                ) {
+                let fragments = row.homes_in(&domains[stripe.value as usize], domain);
+                if fragments.bits == 0 {
+                    continue;
+                }
+                if are_alike {
+                    self.put_missing(stripe, fragments, is_upgrading);
+                } else {
+                    let losses = row.losses_beside(node_table, offline.as_ref(), stripe);
                     self.set_losses(stripe, losses);
                 }
             }
