@@ -8,7 +8,7 @@ ghost use Rattle.lrc_board.specs.Looks.{has_flag, homes_in, level_with, stands_i
 ghost use Rattle.lrc_board.specs.Refreshed.{is_seated_on};
 
 use lrc_book::{Book, Level};
-use lrc_code::{Code, FRAGMENTS, Fragment, LossMask, NodeNo, StripeNo};
+use lrc_code::{Code, Fragment, LossMask, NodeNo, StripeNo};
 use lrc_homes::{Homes, level_by, masks};
 use lrc_topology::Seat;
 

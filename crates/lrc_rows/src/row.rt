@@ -1,4 +1,4 @@
-ghost use Rattle.std.specs.Prelude.{◌≡◌, ℕ, if◌then◌else◌, length, replicate, true, false, None, is_none, is_some, IfSome, ◌<◌, ◌&&◌, nat_lt, nat_eq, get_or};
+ghost use Rattle.std.specs.Prelude.{◌≡◌, ℕ, if◌then◌else◌, length, replicate, true, None, is_none, is_some, IfSome, ◌<◌, ◌&&◌, nat_lt, nat_eq, get_or};
 ghost use Rattle.std.specs.List.{list_any};
 ghost use Rattle.lrc_code.specs.Codes.{fragment_count};
 ghost use Rattle.lrc_code.specs.Losses.{bits_set, bits_of};
