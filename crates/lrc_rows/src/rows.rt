@@ -298,7 +298,9 @@ impl Rows {
     pub fn join_work(&self, set: &mut StripeSet)
         ensures { has set.new ≡ λ s. has set.old s || row_has_work (rows_in self.now s) }
     {
-        self.work.join(set);
+        if self.has_work() {
+            self.work.join(set);
+        }
     }
 
     /// The stripes that have work, in the order of repair.
