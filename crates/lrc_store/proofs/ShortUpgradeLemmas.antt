@@ -1,4 +1,4 @@
--- A stripe that an upgrade would lose is short: it misses several fragments, and it needs a lease or has homes on several nodes that are not online.
+-- A stripe that an upgrade would lose is short: it misses several fragments; and it needs a lease, or has homes on more than two nodes that are not online, or on two, and the domain takes a global parity.
 use Rattle.std.proofs.Common.{[], ◌≡◌, ◌≢◌, ℕ, ◌+◌, ◌-◌, ◌≤◌, ◌<◌, inl, inr, Bool, true, false, not, ◌&&◌, ◌||◌, nat_lt, nat_le, cond, List, ◌∷◌, map, ap₂, Option, Some, None, option_map, ap₂, IsFalse, IsSomeAnd, arith, refl, sym, ap, ap₂, ◌∙◌, subst}
 use Rattle.std.specs.List.{Contains, AllPairs, count_by}
 use Rattle.std.specs.Option.{option_map_or}
