@@ -51,12 +51,6 @@ module _ (words : List ℕ) (from : ℕ) where
         | inr more ↦ absurd (let none : bit_at w (s + t) ≡ 0 = bit_at_above w 64 (s + t) fits more in omega (arith, none, bit))
       ]
 
-  -- so it is in the same word as `from`
-  pub start-near : get_or words (from / 64) 0 < 2 ^ 64 → get_or words (from / 64) 0 / 2 ^ (from % 64) ≢ 0
-      → get_or words (from / 64) 0 / 2 ^ (from % 64) < 2 ^ 64
-      → (from + trailing_zeros w64 (get_or words (from / 64) 0 / 2 ^ (from % 64))) / 64 ≡ from / 64
-  start-near fits some small = let inside = start-inside fits some small in omega (arith, inside)
-
   -- one more word without a bit
   pub off-more : (i : ℕ) → ((j : ℕ) → from ≤ j → j < 64 * i → flag words j ≡ false) → get_or words i 0 ≡ 0 → (j : ℕ) → from ≤ j
       → j < 64 * (i + 1) → flag words j ≡ false
@@ -84,10 +78,6 @@ module _ (words : List ℕ) (from : ℕ) where
           later = omega arith;
           first = λ j low high. read words xs j view ∙ off_in_word t (omega (arith, inside)) h.2 j low high;
         }
-
-    -- if the rest of the first word has no bit, it has no number from `from` on
-    pub start-none : get_or words (from / 64) 0 / 2 ^ (from % 64) ≡ 0 → (j : ℕ) → from ≤ j → j / 64 ≡ from / 64 → get_or xs j false ≡ false
-    start-none empty j low near = read words xs j view ∙ off-start empty j low (omega (arith, near))
 
     -- the first bit of a later word is the first number from `from` on
     pub found-later : (i : ℕ) → i < length words → from ≤ i * 64 → ((j : ℕ) → from ≤ j → j < 64 * i → flag words j ≡ false)
@@ -145,30 +135,6 @@ module _ (words : List ℕ) (xs : List Bool) (view : flags words ≡ xs) (i : �
   pub near-none : get_or words i 0 ≡ 0 → (k : ℕ) → k / 64 ≡ i → get_or xs k false ≡ false
   near-none empty k here = read words xs k view
       ∙ ap (λ n. eqb n 1) (ap (λ j. bit_at (get_or words j 0) (k % 64)) here ∙ (ap (λ w. bit_at w (k % 64)) empty ∙ bit_at-zero (k % 64)))
-
-  -- there is no number after the last word
-  pub near-past : length words ≤ i → (k : ℕ) → k / 64 ≡ i → get_or xs k false ≡ false
-  near-past past k here =
-      let long : length xs ≡ 64 * length words = ap length (sym view) ∙ length-flags words in
-      let beyond : length xs ≤ k = omega (arith, long, past, here) in
-      get_or_past xs k false beyond
-
-  -- a word with a number is one of the set's words, and is not 0
-  pub word-filled : (k : ℕ) × (k / 64 ≡ i) × (get_or xs k false ≡ true) → (i < length words) × (get_or words i 0 ≢ 0)
-  word-filled (k, here, hit) = (within, λ empty. absurd (let clash : true ≡ false = sym hit ∙ near-none empty k here in cc)) where
-    within : i < length words
-    within = elim (cases_lt i (length words)) [
-      | inl less ↦ less
-      | inr more ↦ absurd (let clash : true ≡ false = sym hit ∙ near-past more k here in cc)
-    ]
-
-  -- the first number of a word
-  pub found-in_word : i < length words → get_or words i 0 ≢ 0 → get_or words i 0 < 2 ^ 64
-      → IsFirstFrom xs (64 * i) (i * 64 + trailing_zeros w64 (get_or words i 0)) × ((i * 64 + trailing_zeros w64 (get_or words i 0)) / 64 ≡ i)
-  found-in_word within some small =
-      let h = bit_at-trailing_zeros w64 (get_or words i 0) (omega (arith, some)) small in
-      let low : trailing_zeros w64 (get_or words i 0) < 64 = h.0 in
-      (found-later words (64 * i) xs view i within (omega arith) (λ j high less. absurd (omega (arith, high, less))) some small, omega (arith, low))
 
 -- a word that is shifted right is still a word
 pub shifted-small : (w s : ℕ) → w < 2 ^ 64 → w / 2 ^ s < 2 ^ 64

@@ -4,7 +4,7 @@ ghost use Rattle.lrc_topology.specs.declared.NodeInfo.{NodeInfo};
 ghost use Rattle.lrc_rules.specs.declared.entry.Entry.{Entry};
 ghost use Rattle.lrc_rules.specs.States.{State};
 ghost use Rattle.lrc_rules.specs.Steps.{step};
-ghost use Rattle.lrc_board.specs.Refreshed.{OthersStay, no_changes, stripes_changed_by, nodes_changed_by, are_loads_changed_by, is_fail};
+ghost use Rattle.lrc_board.specs.Refreshed.{OthersStay, no_changes, stripes_changed_by, nodes_changed_by, are_loads_changed_by};
 
 use lrc_book::{Command, Reply};
 use lrc_code::{NodeNo, StripeNo, UpgradeNo};
@@ -99,19 +99,8 @@ fn are_loads_changed_by(command: Command, reply: &Reply) -> bool
     ensures { result ≡ are_loads_changed_by command reply.now }
 {
     match reply {
-        Reply::Refused(_) => false,
-        Reply::Idle => false,
-        Reply::Changed => is_fail(command),
+        Reply::Refused(_) | Reply::Idle => false,
+        Reply::Changed => matches!(command, Command::Fail(_)),
         _ => true,
-    }
-}
-
-/// Reports whether the command says that a node failed.
-fn is_fail(command: Command) -> bool
-    ensures { result ≡ is_fail command }
-{
-    match command {
-        Command::Fail(_) => true,
-        _ => false,
     }
 }

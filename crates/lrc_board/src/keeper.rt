@@ -113,8 +113,8 @@ impl<N: ViewNaming> Keeper<N> {
         self.advance(viewer);
     }
 
-    /// Moves the viewer to the end of the history, without a proof that it moves forward: `covers` gives one, before the last
-    /// call too.
+    /// Moves the viewer to the end of the history. `covers` shows that it moves forward, also where it was called before the
+    /// last entry was made.
     pub fn advance(&self, viewer: &mut Viewer<N>)
         ensures legal { IsLegal N.topology viewer.new }
         ensures all { viewer.new ≡ self.now.history }

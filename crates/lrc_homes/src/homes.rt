@@ -63,10 +63,11 @@ impl Homes {
         }
     }
 
-    /// The same homes once more.
+    /// A copy of the homes.
     pub fn again(&self) -> Homes
         ensures { result ≡ self.now }
     {
+        // (`Copy` can't be derived for a type with a model)
         Homes {
             nodes: self.nodes,
             homed: LossMask::from_bits(self.homed.bits),

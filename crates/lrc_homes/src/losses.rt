@@ -126,12 +126,12 @@ impl Losses {
     }
 }
 
-/// The margin of a stripe of the code with these missing fragments; `None` if they are not recoverable. Each branch has the
-/// numbers of its own code.
+/// The margin of a stripe of the code with these missing fragments; `None` if they are not recoverable.
 fn margin_in(code: Code, missing: LossMask) -> Option<u8>
     ensures value { result ≡ margin_of code (bits_set missing.bits) }
     ensures few { IfSome result (λ t. t ≤ 3) }
 {
+    // The masks of the classes are constants in each branch.
     match code {
         Code::Wide => missing.margin_in(Code::Wide),
         Code::Narrow => missing.margin_in(Code::Narrow),
