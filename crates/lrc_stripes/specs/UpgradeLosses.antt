@@ -39,8 +39,8 @@ abbrev pub is_short_row : NodeStates → UpgradeNo → Bool → Row → Bool
 is_short_row states u is_sure r = (is_sure || row_loses_global states.nodes u r) && (misses_two r && is_row_lost states u r)
 
 -- the same by the masks of the missing fragments and of the homes in the domain
-abbrev pub are_masks_sought : Code → Bool → ℕ → ℕ → Bool
-are_masks_sought code is_sure missing homes =
+abbrev pub is_short_by_masks : Code → Bool → ℕ → ℕ → Bool
+is_short_by_masks code is_sure missing homes =
     (nat_le 2 (count_ones missing) && (is_sure || nat_lt 0 (losses_in code G (λ f. bits_set homes f && not (bits_set missing f)))))
     && (is_recoverable code (bits_set missing) && not (is_recoverable code (λ f. bits_set missing f || bits_set homes f)))
 

@@ -76,8 +76,8 @@ impl NodeTable {
         }
     }
 
-    /// Whether the nodes of an upgrade domain are alike: all offline if it is upgrading, else all online. While it is upgrading
-    /// they are, and nothing is looked at.
+    /// `true` tells that the nodes of an upgrade domain are alike: all offline if it is upgrading, else all online. While it is
+    /// upgrading they are, and nothing is looked at.
     pub(crate) fn are_alike_in(&self, domain: UpgradeNo, is_upgrading: bool) -> bool
         ensures { result ≡ true → is_upgrading ≡ false → (n : AnyNode) (s : AnyStripe) → (states_in self.now).online n ≡ false → (states_in self.now).on n s ≡ true → is_outside (states_in self.now).nodes domain n ≡ true }
     {
@@ -87,7 +87,7 @@ impl NodeTable {
         self.are_online_in(domain)
     }
 
-    /// Whether no offline node is in the upgrade domain. Then each offline node with a home of a stripe is outside it.
+    /// `true` tells that no offline node with a home of a stripe is in the upgrade domain.
     fn are_online_in(&self, domain: UpgradeNo) -> bool
         ensures { result ≡ true → (n : AnyNode) (s : AnyStripe) → (states_in self.now).online n ≡ false → (states_in self.now).on n s ≡ true → is_outside (states_in self.now).nodes domain n ≡ true }
     {
