@@ -1,8 +1,7 @@
 -- The domains that are barred for a fragment, filled seat by seat.
-use Rattle.std.proofs.Common.{[], ◌≡◌, ◌≢◌, ℕ, ◌<◌, Bool, true, false, cond, eqb, ◌&&◌, ◌||◌, Option, Some, None, option_and_then, ◌↔◌, inl, inr, List, ◌∷◌, ◌++◌, map, length, take, get_or, refl, sym, ap, ap₂, ◌∙◌}
+use Rattle.std.proofs.Common.{[], ◌≡◌, ◌≢◌, ℕ, ◌<◌, Bool, true, false, eqb, ◌&&◌, ◌||◌, Option, Some, None, option_and_then, ◌↔◌, inl, inr, List, ◌∷◌, ◌++◌, map, length, take, get_or, refl, sym, ap, ap₂, ◌∙◌}
 use Rattle.std.proofs.Math.Path.{fun_ext}
 use Rattle.std.specs.List.{All, Contains, list_any}
-use Rattle.std.specs.Option.{option_map_or}
 use Rattle.std.proofs.lemmas.Bool.{eq-eqb, ne_eqb, cases_Bool, and_parts, false_from_ne_true}
 use Rattle.std.proofs.lemmas.List.Elements.{All-nil, All-cons, All-head, All-tail, All-weaker, All-contains, Contains-append_left, Contains-append_right, Contains-append_cases}
 use Rattle.std.proofs.lemmas.List.Folds.{list_any-append}
@@ -18,7 +17,7 @@ use Rattle.lrc_code.proofs.NumbersLemmas.{equal_fragments}
 use Rattle.lrc_topology.specs.declared.NodeInfo.{NodeInfo}
 use Rattle.lrc_topology.specs.declared.seat.Seat.{Seat}
 use Rattle.lrc_topology.specs.declared.seat.Held.{Held}
-use Rattle.lrc_slots.specs.Barred.{Barred, with_fault, with_upgrade, with_fault_of, with_upgrade_of}
+use Rattle.lrc_slots.specs.Barred.{Barred, with_fault, with_upgrade}
 use Rattle.lrc_rules.specs.States.{State, has_stripe, held_by, seats_of}
 use Rattle.lrc_rules.specs.Changes.{held_at}
 use Rattle.lrc_rules.specs.Goodness.{AreSeated}
@@ -86,25 +85,6 @@ module _ (nodes : List NodeInfo) (code : Code) (s : StripeNo) (f g : Fragment) (
   seat-nowhere (Some seat) gone = same_bars b (with_seat nodes code s f b g (Some seat))
       (λ d. rw gone (or_nothing (b.faults d) (is_beside s f (record { stripe = s; fragment = g; seat = seat }))))
       (λ d. rw gone (or_nothing (b.upgrades d) (is_beside s f (record { stripe = s; fragment = g; seat = seat }))))
-
-  -- so what a seat of another fragment bars are the domains of its node, if the store has it
-  module _ (seat : Seat) (other : eqb g.value f.value ≡ false) where
-    abbrev fault_too : Option NodeInfo → Barred
-    fault_too m = option_map_or (λ n. with_fault b n.fault) m b
-
-    abbrev both_too : Option NodeInfo → Barred
-    both_too m = option_map_or (λ n. with_upgrade (fault_too m) n.upgrade) m (fault_too m)
-
-    seat-at : (one : Bool) (m : Option NodeInfo) → node_at nodes seat.node ≡ m → one ≡ share_class code f g
-        → cond one (both_too (node_at nodes seat.node)) (fault_too (node_at nodes seat.node)) ≡ with_seat nodes code s f b g (Some seat)
-    seat-at true (Some n) found is = ap both_too found ∙ ap (λ (x : Bool). with_node x b n) is ∙ seat-barred (Some seat) n found other
-    seat-at false (Some n) found is = ap fault_too found ∙ ap (λ (x : Bool). with_node x b n) is ∙ seat-barred (Some seat) n found other
-    seat-at true None gone is = ap both_too gone ∙ seat-nowhere (Some seat) gone
-    seat-at false None gone is = ap fault_too gone ∙ seat-nowhere (Some seat) gone
-
-    pub seat-domains : (one : Bool) → one ≡ share_class code f g
-        → cond one (with_upgrade_of nodes (with_fault_of nodes b seat.node) seat.node) (with_fault_of nodes b seat.node) ≡ with_seat nodes code s f b g (Some seat)
-    seat-domains one is = seat-at one (node_at nodes seat.node) refl is
 
 -- ---- what several seats bar
 

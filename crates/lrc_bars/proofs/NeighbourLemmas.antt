@@ -1,4 +1,4 @@
--- The domains of a stripe's homes side by side bar what its homes bar.
+-- The domains of a stripe's homes, or of the targets of its leases, side by side bar what these seats bar.
 use Rattle.std.proofs.Common.{[], ◌≡◌, ℕ, ◌+◌, ◌<◌, inl, inr, Bool, true, false, not, ◌&&◌, ◌||◌, nat_eq, nat_lt, eqb, List, ◌∷◌, ◌++◌, length, take, get_or, Option, Some, None, is_some, IsSome, bit_and, arith, refl, sym, ap, ap₂, ◌∙◌}
 use Rattle.std.specs.List.{list_any}
 use Rattle.std.proofs.lemmas.Bool.{cases_Bool, cases_eq, eq-eqb, ne_eqb, lt-ltb}
@@ -20,7 +20,7 @@ use Rattle.lrc_terms.proofs.LevelLemmas.{has_some-bits, has_some-none}
 use Rattle.lrc_homes.proofs.HomesLemmas.{both-bits}
 use Rattle.lrc_slots.specs.Barred.{Barred, joined, with_fault, with_upgrade}
 use Rattle.lrc_bars.specs.Ties.{bars_fault, bars_upgrade, bars_in, closed}
-use Rattle.lrc_bars.specs.Neighbouring.{stands_in, homes_bar, with_home_fault, with_home_upgrade}
+use Rattle.lrc_bars.specs.Neighbouring.{stands_in, domains_bar, with_seat_fault, with_seat_upgrade}
 use Rattle.lrc_bars.proofs.BarLemmas.{same_bars}
 use Rattle.lrc_bars.proofs.BesideLemmas.{held_if, held_all}
 use Rattle.lrc_bars.proofs.ClassBarLemmas.{closed-joined}
@@ -110,12 +110,12 @@ module _ (nodes : List NodeInfo) (code : Code) (s : StripeNo) (f : Fragment) (ho
       off = others_are g ∙ ap (λ (o : Option Seat). not (eqb g.value f.value) && is_some o) none ∙ and-none (not (eqb g.value f.value))
 
   -- the domains side by side bar what the homes of the other fragments bar
-  pub homes-bar : (fs : List Fragment) → homes_bar faults upgrades others members fs ≡ bars_in nodes code s f (held_all s homes fs)
-  homes-bar [] = refl
-  homes-bar (g ∷ gs) =
+  pub seats-bar : (fs : List Fragment) → domains_bar faults upgrades others members fs ≡ bars_in nodes code s f (held_all s homes fs)
+  seats-bar [] = refl
+  seats-bar (g ∷ gs) =
       let one = one-bars g (homes g) refl in
-      let rest = homes-bar gs in
-      same_bars (homes_bar faults upgrades others members (g ∷ gs)) (bars_in nodes code s f (held_all s homes (g ∷ gs)))
+      let rest = seats-bar gs in
+      same_bars (domains_bar faults upgrades others members (g ∷ gs)) (bars_in nodes code s f (held_all s homes (g ∷ gs)))
       (λ d. ap₂ (λ (b c : Bool). b || c) (one.0 d) (ap (λ b. b.faults d) rest) ∙ sym (list_any-append (bars_fault nodes s f d) (held_if s g (homes g)) (held_all s homes gs)))
       (λ d. ap₂ (λ (b c : Bool). b || c) (one.1 d) (ap (λ b. b.upgrades d) rest) ∙ sym (list_any-append (bars_upgrade nodes code s f d) (held_if s g (homes g)) (held_all s homes gs)))
 
@@ -128,7 +128,7 @@ or-turn false true = refl
 or-turn false false = refl
 
 -- a node is barred by a home or otherwise, in its fault domain or in its upgrade domain
-pub near-or-more : (f u g v : Bool) → ((f || u) || (g || v)) ≡ ((g || f) || (v || u))
+near-or-more : (f u g v : Bool) → ((f || u) || (g || v)) ≡ ((g || f) || (v || u))
 near-or-more true u true v = refl
 near-or-more true u false v = refl
 near-or-more false true true v = refl
@@ -158,37 +158,44 @@ module _ (b : Barred) (domains : List ℕ) (bits : ℕ) (f : Fragment) where
   stands-there : (value number : ℕ) → value ≡ get_or domains f.value 0 → bits_set bits f.value ≡ true → nat_eq number value ≡ stands_in domains bits number f
   stands-there value number is hit = rw hit (test-sym number value ∙ ap (λ (k : ℕ). nat_eq k number) is)
 
-  pub home-fault : (domain : FaultNo) → domain.value ≡ get_or domains f.value 0 → bits_set bits f.value ≡ true → with_fault b domain ≡ with_home_fault b domains bits f
-  home-fault domain is hit = same_bars (with_fault b domain) (with_home_fault b domains bits f)
+  pub seat-fault : (domain : FaultNo) → domain.value ≡ get_or domains f.value 0 → bits_set bits f.value ≡ true → with_fault b domain ≡ with_seat_fault b domains bits f
+  seat-fault domain is hit = same_bars (with_fault b domain) (with_seat_fault b domains bits f)
       (λ d. ap (λ (x : Bool). b.faults d || x) (stands-there domain.value d.value is hit)) (λ d. refl)
 
-  pub home-upgrade : (domain : UpgradeNo) → domain.value ≡ get_or domains f.value 0 → bits_set bits f.value ≡ true
-      → with_upgrade b domain ≡ with_home_upgrade b domains bits f
-  home-upgrade domain is hit = same_bars (with_upgrade b domain) (with_home_upgrade b domains bits f) (λ d. refl)
+  pub seat-upgrade : (domain : UpgradeNo) → domain.value ≡ get_or domains f.value 0 → bits_set bits f.value ≡ true
+      → with_upgrade b domain ≡ with_seat_upgrade b domains bits f
+  seat-upgrade domain is hit = same_bars (with_upgrade b domain) (with_seat_upgrade b domains bits f) (λ d. refl)
       (λ d. ap (λ (x : Bool). b.upgrades d || x) (stands-there domain.value d.value is hit))
 
 module _ (b : Barred) (domains : List ℕ) (bits : ℕ) (f : Fragment) (off : bits_set bits f.value ≡ false) where
   -- any other bars nothing
-  pub no-home-fault : b ≡ with_home_fault b domains bits f
-  no-home-fault = same_bars b (with_home_fault b domains bits f) (λ d. rw off (or-nothing (b.faults d))) (λ d. refl)
+  pub no-seat-fault : b ≡ with_seat_fault b domains bits f
+  no-seat-fault = same_bars b (with_seat_fault b domains bits f) (λ d. rw off (or-nothing (b.faults d))) (λ d. refl)
 
-  pub no-home-upgrade : b ≡ with_home_upgrade b domains bits f
-  no-home-upgrade = same_bars b (with_home_upgrade b domains bits f) (λ d. refl) (λ d. rw off (or-nothing (b.upgrades d)))
+  pub no-seat-upgrade : b ≡ with_seat_upgrade b domains bits f
+  no-seat-upgrade = same_bars b (with_seat_upgrade b domains bits f) (λ d. refl) (λ d. rw off (or-nothing (b.upgrades d)))
 
 or-or : (a b c : Bool) → ((a || b) || c) ≡ (a || (b || c))
 or-or true b c = refl
 or-or false b c = refl
 
+-- a node is barred by a home, by a target or otherwise, in its fault domain or in its upgrade domain
+pub near-both : (f u g v h w : Bool) → (((f || u) || (g || v)) || (h || w)) ≡ (((h || g) || f) || ((w || v) || u))
+near-both f u g v h w =
+    or-or (f || u) (g || v) (h || w)
+    ∙ ap (λ (b : Bool). (f || u) || b) (near-or-more g v h w)
+    ∙ near-or-more f u (h || g) (w || v)
+
 module _ (more : Barred) (faults upgrades : List ℕ) (others members : ℕ) where
   -- with no fragment, only what else is barred
-  pub homes-none : more ≡ joined more (homes_bar faults upgrades others members [])
-  homes-none = same_bars more (joined more (homes_bar faults upgrades others members [])) (λ d. or-nothing (more.faults d)) (λ d. or-nothing (more.upgrades d))
+  pub seats-none : more ≡ joined more (domains_bar faults upgrades others members [])
+  seats-none = same_bars more (joined more (domains_bar faults upgrades others members [])) (λ d. or-nothing (more.faults d)) (λ d. or-nothing (more.upgrades d))
 
   -- one fragment more of a list that is gone through
-  pub homes-more : (fs : List Fragment) (i : ℕ) (d : Fragment) → i < length fs
-      → with_home_upgrade (with_home_fault (joined more (homes_bar faults upgrades others members (take i fs))) faults others (get_or fs i d)) upgrades members (get_or fs i d)
-      ≡ joined more (homes_bar faults upgrades others members (take (i + 1) fs))
-  homes-more fs i d within = same_bars _ (joined more (homes_bar faults upgrades others members (take (i + 1) fs)))
+  pub seats-more : (fs : List Fragment) (i : ℕ) (d : Fragment) → i < length fs
+      → with_seat_upgrade (with_seat_fault (joined more (domains_bar faults upgrades others members (take i fs))) faults others (get_or fs i d)) upgrades members (get_or fs i d)
+      ≡ joined more (domains_bar faults upgrades others members (take (i + 1) fs))
+  seats-more fs i d within = same_bars _ (joined more (domains_bar faults upgrades others members (take (i + 1) fs)))
       (λ n. or-or (more.faults n) (list_any (stands_in faults others n.value) (take i fs)) (stands_in faults others n.value (get_or fs i d))
       ∙ ap (λ (x : Bool). more.faults n || x) (sym (list_any_more (stands_in faults others n.value) fs i d within)))
       (λ n. or-or (more.upgrades n) (list_any (stands_in upgrades members n.value) (take i fs)) (stands_in upgrades members n.value (get_or fs i d))

@@ -7,4 +7,4 @@ pub mod laws;
 mod neighbours;
 
 pub use class_bars::ClassBars;
-pub use neighbours::Neighbours;
+pub use neighbours::{Neighbours, OtherSeats};

@@ -3,58 +3,84 @@ ghost use Rattle.std.specs.List.{list_any};
 ghost use Rattle.lrc_code.specs.declared.codes.Code.TheVariants.{Wide};
 ghost use Rattle.lrc_code.specs.Codes.{fragments};
 ghost use Rattle.lrc_code.specs.Losses.{bits_set};
-ghost use Rattle.lrc_slots.specs.Barred.{Barred};
+ghost use Rattle.lrc_slots.specs.Barred.{Barred, joined};
 ghost use Rattle.lrc_slots.specs.BarredNodes.{AreBarredNodes};
 ghost use Rattle.lrc_slots.specs.Tables.{slots_of};
-ghost use Rattle.lrc_bars.specs.Neighbouring.{stands_in, with_home_fault, with_home_upgrade};
+ghost use Rattle.lrc_bars.specs.Neighbouring.{stands_in, seats_bar, with_seat_fault, with_seat_upgrade};
 
 use lrc_code::{FaultNo, Fragment, LossMask, UpgradeNo};
 use lrc_homes::HomeDomains;
 use lrc_slots::{BarredDomains, BarredNodes, Barring, SlotTable};
 use lrc_topology::NodeInfo;
 
-/// The homes of the other fragments of a stripe, and what else bars nodes for a fragment.
+/// Seats of the other fragments of a stripe, one at most for each: their homes, or the targets of their leases.
 #[derive(Drop)]
-pub struct Neighbours<'a> {
-    /// The domains of the homes of its stripe.
-    pub homes: &'a HomeDomains,
-    /// The other fragments that have a home.
+pub struct OtherSeats<'a> {
+    /// The domains of the seats.
+    pub domains: &'a HomeDomains,
+    /// The other fragments that have such a seat.
     pub others: LossMask,
-    /// Those of them that are of its class.
+    /// Those of them that are of the fragment's class.
     pub members: LossMask,
-    pub more: &'a BarredDomains,
 }
 
-impl<'a> Neighbours<'a> {
-    /// Whether the node is in a domain that one of the homes bars.
+impl<'a> OtherSeats<'a> {
+    /// Whether the node is in a domain that one of the seats bars.
     fn are_near(&self, node: &NodeInfo) -> bool
-        ensures { result ≡ (list_any (stands_in self.now.homes.now.faults self.now.others.bits node.now.fault.value) (fragments Wide)
-            || list_any (stands_in self.now.homes.now.upgrades self.now.members.bits node.now.upgrade.value) (fragments Wide)) }
+        ensures { result ≡ ((seats_bar self.now).faults node.now.fault || (seats_bar self.now).upgrades node.now.upgrade) }
     {
-        meet(self.homes.in_fault(node.fault), self.others)
-            || meet(self.homes.in_upgrade(node.upgrade), self.members)
+        meet(self.domains.in_fault(node.fault), self.others)
+            || meet(self.domains.in_upgrade(node.upgrade), self.members)
     }
 
-    /// Adds the nodes of the fault domain of a fragment's home to the barred nodes, if it is one of the others.
+    /// Adds the nodes in the domains that the seats bar to the barred nodes.
+    fn bar(&self, table: &SlotTable, barred_nodes: &mut BarredNodes)
+        ensures { (b : Barred) → AreBarredNodes (slots_of table.now).nodes b barred_nodes.old → AreBarredNodes (slots_of table.now).nodes (joined b (seats_bar self.now)) barred_nodes.new }
+    {
+        for fragment in Fragment::all().iter() {
+            self.bar_fault(table, barred_nodes, *fragment);
+            self.bar_upgrade(table, barred_nodes, *fragment);
+        }
+    }
+
+    /// Adds the nodes of the fault domain of a fragment's seat to the barred nodes, if it is one of the others.
     fn bar_fault(&self, table: &SlotTable, barred_nodes: &mut BarredNodes, fragment: Fragment)
         ensures { (b : Barred) → AreBarredNodes (slots_of table.now).nodes b barred_nodes.old
-            → AreBarredNodes (slots_of table.now).nodes (with_home_fault b self.now.homes.now.faults self.now.others.bits fragment) barred_nodes.new }
+            → AreBarredNodes (slots_of table.now).nodes (with_seat_fault b self.now.domains.now.faults self.now.others.bits fragment) barred_nodes.new }
     {
         if self.others.contains(fragment) {
-            let domain = self.homes.faults[fragment.value as usize];
+            let domain = self.domains.faults[fragment.value as usize];
             table.bar_fault_in(barred_nodes, FaultNo { value: domain });
         }
     }
 
-    /// Adds the nodes of the upgrade domain of a fragment's home to the barred nodes, if it is one of the members.
+    /// Adds the nodes of the upgrade domain of a fragment's seat to the barred nodes, if it is one of the members.
     fn bar_upgrade(&self, table: &SlotTable, barred_nodes: &mut BarredNodes, fragment: Fragment)
         ensures { (b : Barred) → AreBarredNodes (slots_of table.now).nodes b barred_nodes.old
-            → AreBarredNodes (slots_of table.now).nodes (with_home_upgrade b self.now.homes.now.upgrades self.now.members.bits fragment) barred_nodes.new }
+            → AreBarredNodes (slots_of table.now).nodes (with_seat_upgrade b self.now.domains.now.upgrades self.now.members.bits fragment) barred_nodes.new }
     {
         if self.members.contains(fragment) {
-            let domain = self.homes.upgrades[fragment.value as usize];
+            let domain = self.domains.upgrades[fragment.value as usize];
             table.bar_upgrade_in(barred_nodes, UpgradeNo { value: domain });
         }
+    }
+}
+
+/// The seats of the other fragments of a stripe, and what else bars nodes for a fragment.
+#[derive(Drop)]
+pub struct Neighbours<'a> {
+    pub homes: OtherSeats<'a>,
+    pub targets: OtherSeats<'a>,
+    pub more: &'a BarredDomains,
+}
+
+impl<'a> Neighbours<'a> {
+    /// Whether the node is in a domain that one of the seats bars.
+    fn are_near(&self, node: &NodeInfo) -> bool
+        ensures { result ≡ (((seats_bar self.now.homes).faults node.now.fault || (seats_bar self.now.homes).upgrades node.now.upgrade)
+            || ((seats_bar self.now.targets).faults node.now.fault || (seats_bar self.now.targets).upgrades node.now.upgrade)) }
+    {
+        self.homes.are_near(node) || self.targets.are_near(node)
     }
 }
 
@@ -69,10 +95,8 @@ impl<'a> Barring for Neighbours<'a> {
 
     fn nodes_in(&self, table: &SlotTable) -> BarredNodes {
         let mut barred_nodes = self.more.nodes_in(table);
-        for fragment in Fragment::all().iter() {
-            self.bar_fault(table, &mut barred_nodes, *fragment);
-            self.bar_upgrade(table, &mut barred_nodes, *fragment);
-        }
+        self.targets.bar(table, &mut barred_nodes);
+        self.homes.bar(table, &mut barred_nodes);
         barred_nodes
     }
 }

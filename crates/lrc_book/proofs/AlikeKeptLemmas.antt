@@ -70,5 +70,6 @@ alike-kept w v k alike seated kept =
       stripes_is = kept.stripes_is ∙ alike-stored nodes w v alike kept.seated seated (stored_in k.stripes).spare;
       leases_is = kept.leases_is ∙ (λ i. record { leases = leases i; spare = (leased_in k.leases).spare });
       upgrading_is = kept.upgrading_is ∙ alike.upgrading;
+      domains_are = kept.domains_are;
       clock_is = kept.clock_is ∙ alike.clock;
     }

@@ -109,5 +109,6 @@ module _ (st : State) (k : Store) (kept : IsOf st k) (s : StripeNo) (f : Fragmen
         ∙ stored-home k.topology st (stored_in k.stripes).spare s f seat (none-of (home_of st.homes s f.value) bare));
     leases_is = kept.leases_is;
     upgrading_is = kept.upgrading_is;
+    domains_are = kept.domains_are;
     clock_is = kept.clock_is;
   }

@@ -68,6 +68,7 @@ stripe-kept st k kept code s absent stripes spare added =
           (added ∙ ap (λ (t : Stored). stored.with_stripe (stored.with_spare t spare) code s) kept.stripes_is ∙ stored-stripe k.topology st spare s code kept.seated new);
       leases_is = kept.leases_is;
       upgrading_is = kept.upgrading_is;
+      domains_are = kept.domains_are;
       clock_is = kept.clock_is;
     }
 

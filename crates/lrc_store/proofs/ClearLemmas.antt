@@ -190,6 +190,7 @@ module _ (st : State) (k : Store) (kept : IsOf st k) (s : StripeNo) (f : Fragmen
         leases_is = kept.leases_is;
         apart = kept.apart;
         upgrading_is = kept.upgrading_is;
+        domains_are = kept.domains_are;
         clock_is = kept.clock_is;
       }
 

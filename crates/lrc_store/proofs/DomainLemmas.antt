@@ -53,5 +53,6 @@ domain-kept st upgrading k stripes kept set = record {
   stripes_is = own-spare k.topology (record st { upgrading = upgrading }) (stored_in stripes) (stored_in k.stripes).spare set;
   leases_is = kept.leases_is;
   upgrading_is = refl;
+  domains_are = kept.domains_are;
   clock_is = kept.clock_is;
 }

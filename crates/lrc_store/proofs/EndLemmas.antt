@@ -30,8 +30,9 @@ use Rattle.lrc_rules.specs.Goodness.{AreSeated, IsStanding}
 use Rattle.lrc_bars.specs.Ties.{table_of, kept_table}
 use Rattle.lrc_store.specs.Dropping.{unleased}
 use Rattle.lrc_rules.specs.Steps.{without_upgrading}
-use Rattle.lrc_store.specs.Stores.{IsOf, IsGrant, MayLease}
+use Rattle.lrc_store.specs.Stores.{IsOf, IsGrant, MayLease, AreTargetDomains}
 use Rattle.lrc_store.proofs.NodeStateLemmas.{infos-kept}
+use Rattle.lrc_store.proofs.TargetLemmas.{targets-without}
 use Rattle.lrc_bars.proofs.ClosedLemmas.{settled-seated}
 use Rattle.lrc_rules.proofs.MemberLemmas.{map-member, filter-member, member-filter}
 use Rattle.lrc_rules.proofs.NodeLemmas.{member-taken, taken-member}
@@ -171,6 +172,7 @@ module _ (st : State) (k : Store) (kept : IsOf st k) (s : StripeNo) (f : Fragmen
     leases_is = leases-out leases out;
     apart = kept.apart;
     upgrading_is = kept.upgrading_is;
+    domains_are = targets-without k.topology (leased_in k.leases) k.target_domains.items s f (leased_in leases) (leased_in leases).spare out kept.domains_are;
     clock_is = kept.clock_is;
   }
 
@@ -185,6 +187,7 @@ module _ (st : State) (k : Store) (kept : IsOf st k) (s : StripeNo) (f : Fragmen
     leases_is = leases-out leases out;
     apart = kept.apart;
     upgrading_is = kept.upgrading_is;
+    domains_are = targets-without k.topology (leased_in k.leases) k.target_domains.items s f (leased_in leases) (leased_in leases).spare out kept.domains_are;
     clock_is = kept.clock_is;
   }
 
@@ -218,6 +221,7 @@ module _ (st : State) (k : Store) (kept : IsOf st k) (s : StripeNo) (f : Fragmen
     leases_is = leases-out st k kept s f leases out;
     apart = kept.apart;
     upgrading_is = kept.upgrading_is;
+    domains_are = targets-without k.topology (leased_in k.leases) k.target_domains.items s f (leased_in leases) (leased_in leases).spare out kept.domains_are;
     clock_is = kept.clock_is;
   }
 
@@ -268,10 +272,12 @@ module _ (st : State) (k : Store) (kept : IsOf st k) (l : Lease) (may : MayLease
     within = may.own;
   }
 
-  pub add-kept : (table : slot_tables.Table) (leases : lease_tables.Table)
+  -- with the domains of its target stored, what is kept is that of the state with it
+  pub add-kept : (table : slot_tables.Table) (leases : lease_tables.Table) (m : Store)
       → slots_of table ≡ with_taken (slots_of k.table) l.target.node (Some l.target.slot) → leased_in leases ≡ leased.with_lease (leased_in k.leases) l
-      → IsOf (with_lease st l) (record k { table = table; leases = leases })
-  add-kept table leases taken added = record {
+      → (AreTargetDomains k.topology (leased_in k.leases) k.target_domains.items → AreTargetDomains k.topology (leased.with_lease (leased_in k.leases) l) m.target_domains.items)
+      → IsOf (with_lease st l) (record k { table = table; leases = leases; target_domains = m.target_domains })
+  add-kept table leases m taken added put = record {
     known = kept.known;
     seated = leased-seated k.topology st kept.seated l may-stand may.new;
     table_is = taken ∙ ap (λ (t : Slots). with_taken t l.target.node (Some l.target.slot)) kept.table_is ∙ add-table;
@@ -280,6 +286,7 @@ module _ (st : State) (k : Store) (kept : IsOf st k) (l : Lease) (may : MayLease
         (added ∙ ap (λ (t : Leased). leased.with_lease t l) kept.leases_is ∙ sym (leased_of-append st.leases l (leased_in k.leases).spare may.new));
     apart = kept.apart;
     upgrading_is = kept.upgrading_is;
+    domains_are = subst (λ (t : Leased). AreTargetDomains k.topology t m.target_domains.items) (sym added) (put kept.domains_are);
     clock_is = kept.clock_is;
   }
 

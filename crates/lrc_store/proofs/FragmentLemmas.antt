@@ -219,5 +219,6 @@ dropped-kept st s before k table stripes first last same freed removed =
       leases_is = kept.leases_is;
       apart = kept.apart;
       upgrading_is = kept.upgrading_is;
+      domains_are = kept.domains_are;
       clock_is = kept.clock_is;
     }

@@ -16,6 +16,7 @@ pub mod ShownLemmas
 pub mod EndLemmas
 pub mod KnownSeatLemmas
 pub mod TargetLemmas
+pub mod LeftLemmas
 pub mod LeaseToldLemmas
 pub mod RepairLemmas
 pub mod LeaseReplyLemmas

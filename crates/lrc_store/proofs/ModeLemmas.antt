@@ -105,5 +105,6 @@ state-kept n was gone draining down k kept seated apart there others mode b mode
           (set_too ∙ ap (λ (t : Stored). stored.with_state t n mode b) kept.stripes_is ∙ stored-set k.topology n was gone draining down others mode b mode_is down_is (stored_in k.stripes).spare);
       leases_is = kept.leases_is;
       upgrading_is = kept.upgrading_is;
+      domains_are = kept.domains_are;
       clock_is = kept.clock_is;
     }

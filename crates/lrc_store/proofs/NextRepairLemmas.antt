@@ -1,5 +1,5 @@
 -- The repair that the next lease is granted for.
-use Rattle.std.proofs.Common.{◌≡◌, ℕ, zero, suc, ◌+◌, ◌-◌, ◌<◌, ◌≤◌, Bool, true, false, not, ◌&&◌, if◌then◌else◌, List, drop, get_or, length, find, Option, Some, None, is_none, is_some, Ok, Err, refl, sym, ap, ap₂, subst, ◌∙◌, arith, inl, inr, eqb}
+use Rattle.std.proofs.Common.{◌≡◌, ℕ, zero, suc, ◌+◌, ◌<◌, ◌≤◌, Bool, true, false, not, ◌&&◌, if◌then◌else◌, List, drop, get_or, length, find, Option, Some, None, is_none, is_some, Ok, Err, refl, sym, ap, ap₂, subst, ◌∙◌, arith, inl, inr, eqb}
 use Rattle.std.specs.Result.{is_ok, result_ok}
 use Rattle.std.proofs.lemmas.Bool.{and_parts, cases_eq, ne_eqb}
 use Rattle.std.proofs.lemmas.Option.{same_Some}

@@ -1,5 +1,5 @@
 -- What is kept at first is that of the opening state.
-use Rattle.std.proofs.Common.{[], ◌≡◌, Bool, true, Option, Some, None, refl, ap, ◌∙◌}
+use Rattle.std.proofs.Common.{[], ◌≡◌, Bool, true, length, Option, Some, None, refl, ap, ◌∙◌}
 use Rattle.std.proofs.Math.Path.{fun_ext}
 use Rattle.std.specs.Option.{option_map_or}
 use Rattle.lrc_code.specs.declared.numbers.NodeNo.{NodeNo}
@@ -17,14 +17,15 @@ use Rattle.lrc_store.specs.Stores.{IsOf}
 use Rattle.lrc_rules.proofs.StepSeatedLemmas.{opening-seated}
 use Rattle.lrc_store.proofs.StoredLemmas.{own-spare}
 use Rattle.lrc_store.proofs.EndLemmas.{own-room}
+use Rattle.lrc_store.proofs.TargetLemmas.{targets-none}
 
 takes-first : (o : Option NodeInfo) → true ≡ option_map_or (takes_seats opening) o true
 takes-first None = refl
 takes-first (Some n) = refl
 
 pub opening-kept : (k : Store) → AreNodes k.topology → slots_of k.table ≡ all_free k.topology → stored_in k.stripes ≡ stored.empty k.topology
-    → leased_in k.leases ≡ leased.empty → k.upgrading ≡ None → k.clock.value ≡ 0 → IsOf opening k
-opening-kept k known table stripes leases upgrading clock = record {
+    → leased_in k.leases ≡ leased.empty → length k.target_domains.items ≡ 4096 → k.upgrading ≡ None → k.clock.value ≡ 0 → IsOf opening k
+opening-kept k known table stripes leases long upgrading clock = record {
   known = known;
   seated = opening-seated k.topology;
   apart = λ n gone. refl;
@@ -33,5 +34,6 @@ opening-kept k known table stripes leases upgrading clock = record {
   stripes_is = own-spare k.topology opening (stored_in k.stripes) 0 stripes;
   leases_is = own-room [] (leased_in k.leases) 0 leases;
   upgrading_is = upgrading;
+  domains_are = targets-none k.topology (leased_in k.leases) k.target_domains.items leases long;
   clock_is = clock;
 }

@@ -166,5 +166,6 @@ placed-kept st code s seats i k table stripes past sixteen kept absent p added =
       leases_is = kept.leases_is;
       apart = kept.apart;
       upgrading_is = kept.upgrading_is;
+      domains_are = kept.domains_are;
       clock_is = kept.clock_is;
     }

@@ -1,72 +1,102 @@
--- The targets of a stripe's leases, fragment by fragment, while those of some fragments are left.
-use Rattle.std.proofs.Common.{◌≡◌, ◌<◌, ℕ, Bool, true, false, cond, not, ◌&&◌, ◌||◌, eqb, Option, None, option_map, refl, sym, ap, arith, ◌∙◌}
-use Rattle.std.specs.List.{count_by, range_with_len}
-use Rattle.std.proofs.lemmas.Bool.{and_parts, eq-eqb, ne_eqb}
-use Rattle.std.proofs.lemmas.Nat.Bits.{bit_at-zero}
+-- The domains that are kept of the targets of leases.
+use Rattle.std.proofs.Common.{◌≡◌, ℕ, ◌<◌, inl, inr, Bool, true, false, cond, ◌&&◌, nat_eq, List, length, get_or, set, Option, Some, None, option_map, is_some, arith, refl, sym, ap, subst, ◌∙◌}
+use Rattle.std.proofs.Math.ListN.{length-set}
+use Rattle.std.proofs.lemmas.Bool.{cases_eq, eq-eqb, ne_eqb}
+use Rattle.std.proofs.lemmas.List.{get_or-set_same, get_or-set_other}
 use Rattle.lrc_code.specs.declared.numbers.StripeNo.{StripeNo}
 use Rattle.lrc_code.specs.declared.numbers.Fragment.{Fragment}
-use Rattle.lrc_code.specs.Losses.{bits_set}
+use Rattle.lrc_code.specs.Numbers.{same_stripe}
+use Rattle.lrc_topology.specs.declared.NodeInfo.{NodeInfo}
 use Rattle.lrc_topology.specs.declared.seat.Seat.{Seat}
-use Rattle.lrc_slots.proofs.CountLemmas.{count-one}
+use Rattle.lrc_topology.specs.Nodes.{node_at}
+use Rattle.lrc_homes.specs.declared.home_domains.HomeDomains.{HomeDomains}
+use Rattle.lrc_homes.specs.Domains.{AreDomainsOf}
 use Rattle.lrc_terms.specs.declared.lease.Lease.{Lease}
-use Rattle.lrc_terms.specs.Leased.{leased_at}
-use Rattle.lrc_leases.specs.Tables.{leased_in}
-use Rattle.lrc_rules.specs.States.{State}
-use Rattle.lrc_bars.proofs.BesideLemmas.{target_at}
-use Rattle.lrc_store.specs.declared.store.Store.{Store}
-use Rattle.lrc_store.specs.Stores.{IsOf}
-use Rattle.lrc_store.proofs.EndLemmas.{not-leased}
+use Rattle.lrc_terms.specs.Leased.{Leased, is_of, empty, with_lease, without_lease, with_spare}
+use Rattle.lrc_rows.proofs.DomainLemmas.{domains-with}
+use Rattle.lrc_store.specs.Stores.{targets_in, AreTargetDomains}
 
--- the target of another fragment's lease, if that fragment is not one of those that are left
-abbrev pub target_past : State → StripeNo → Fragment → ℕ → Fragment → Option Seat
-target_past st s f left g = cond (bits_set left g.value || eqb g.value f.value) None (target_at st s g)
+abbrev target : Lease → Seat
+target l = l.target
 
-module _ (st : State) (s : StripeNo) (f : Fragment) where
-  -- where all others with a lease are left, there is none
-  pub past-none : (k : Store) → IsOf st k → (left : ℕ)
-      → ((g : ℕ) → bits_set left g ≡ (not (eqb g f.value) && leased_at (leased_in k.leases) s g)) → (g : Fragment) → target_past st s f left g ≡ None
-  past-none k kept left are g = go (bits_set left g.value) refl (eqb g.value f.value) refl where
-    go : (b : Bool) → bits_set left g.value ≡ b → (own : Bool) → eqb g.value f.value ≡ own → target_past st s f left g ≡ None
-    go true hit own is = rw hit refl
-    go false miss true is = rw (miss, is) refl
-    go false miss false is =
-        let out : leased_at (leased_in k.leases) s g.value ≡ false =
-        ap (λ (b : Bool). not b && leased_at (leased_in k.leases) s g.value) (sym is) ∙ sym (are g.value) ∙ miss in
-        rw (miss, is) (ap (option_map (λ (l : Lease). l.target)) (not-leased st k kept s g out))
+-- a fragment has a target exactly if it has a lease
+pub has-target : (o : Option Lease) → is_some o ≡ is_some (option_map (λ (l : Lease). l.target) o)
+has-target None = refl
+has-target (Some l) = refl
 
-  -- where none is left, there are all
-  pub past-all : (left : ℕ) → left ≡ 0 → (g : Fragment) → eqb g.value f.value ≡ false → target_past st s f left g ≡ target_at st s g
-  past-all left none g other = rw (none, bit_at-zero g.value, other) refl
+module _ (nodes : List NodeInfo) (t : Leased) (list : List HomeDomains) where
+  -- each lease is one that was
+  pub targets-within : (u : Leased) → ((s : StripeNo) (f : ℕ) (l : Lease) → u.leases s f ≡ Some l → t.leases s f ≡ Some l)
+      → AreTargetDomains nodes t list → AreTargetDomains nodes u list
+  targets-within u within kept = record {
+    long = kept.long;
+    each = λ s d f seat n is at. kept.each s d f seat n (by s f seat (u.leases s f) refl is) at;
+  } where
+    by : (s : StripeNo) (f : ℕ) (seat : Seat) (o : Option Lease) → u.leases s f ≡ o → option_map target o ≡ Some seat → option_map target (t.leases s f) ≡ Some seat
+    by s f seat None none is = absurd (cc)
+    by s f seat (Some l) there is = ap (option_map target) (within s f l there) ∙ is
 
-  module _ (left next : ℕ) (other : Fragment) (less : (g : ℕ) → bits_set next g ≡ (not (eqb g other.value) && bits_set left g)) where
-    -- one of those that are left has none yet
-    pub past-before : bits_set left other.value ≡ true → target_past st s f left other ≡ None
-    past-before hit = rw hit refl
+  -- the lease of one fragment is gone
+  pub targets-without : (s : StripeNo) (f : Fragment) (u : Leased) (spare : ℕ) → u ≡ with_spare (without_lease t s f) spare → AreTargetDomains nodes t list → AreTargetDomains nodes u list
+  targets-without s f u spare is = targets-within u (λ r g l there.
+      left (same_stripe s r && nat_eq f.value g) (t.leases r g) l (sym (ap (λ (x : Leased). x.leases r g) is) ∙ there)) where
+    left : (b : Bool) (o : Option Lease) (l : Lease) → cond b None o ≡ Some l → o ≡ Some l
+    left true o l e = absurd (cc)
+    left false o l e = e
 
-    -- once it is not, it has
-    pub past-after : eqb other.value f.value ≡ false → target_past st s f next other ≡ target_at st s other
-    past-after apart = rw (less other.value, eq-eqb other.value other.value refl, apart) refl
+  -- there is room for more
+  pub targets-spare : (u : Leased) (spare : ℕ) → u ≡ with_spare t spare → AreTargetDomains nodes t list → AreTargetDomains nodes u list
+  targets-spare u spare is = targets-within u (λ r g l there. sym (ap (λ (x : Leased). x.leases r g) is) ∙ there)
 
-    -- nothing else changes
-    pub past-same : (g : Fragment) → eqb g.value other.value ≡ false → target_past st s f next g ≡ target_past st s f left g
-    past-same g away = ap (λ (b : Bool). cond (b || eqb g.value f.value) None (target_at st s g))
-        (less g.value ∙ ap (λ (b : Bool). not b && bits_set left g.value) away)
+  -- there is no lease
+  pub targets-none : t ≡ empty → length list ≡ 4096 → AreTargetDomains nodes t list
+  targets-none is long = record {
+    long = long;
+    each = λ s d f seat n there at. absurd (let clash : ◌≡◌ {A = Option Seat} None (Some seat) = sym (ap (λ (x : Leased). option_map target (x.leases s f)) is) ∙ there in cc);
+  }
 
--- those that are left are others, and have a lease
-pub past-others : (f : Fragment) (leased : ℕ → Bool) (left : ℕ) → ((g : ℕ) → bits_set left g ≡ (not (eqb g f.value) && leased g))
-    → (g : ℕ) → bits_set left g ≡ true → (eqb g f.value ≡ false) × (leased g ≡ true)
-past-others f leased left are g hit =
-    let both = and_parts (not (eqb g f.value)) (leased g) (sym (are g) ∙ hit) in (off (eqb g f.value) both.0, both.1)
-  where
-    off : (b : Bool) → not b ≡ true → b ≡ false
-    off false is = refl
-    off true is = absurd cc
+  module _ (l : Lease) (kept : AreTargetDomains nodes t list) where
+    -- another fragment has the target that it had
+    other-target : (s : StripeNo) (f : ℕ) → is_of s f l ≡ false → targets_in (with_lease t l) s f ≡ targets_in t s f
+    other-target s f other = ap (λ (b : Bool). option_map target (cond b (Some l) (t.leases s f))) other
 
--- one less is left
-pub left-less : (left next : ℕ) (other : Fragment) → ((g : ℕ) → bits_set next g ≡ (not (eqb g other.value) && bits_set left g)) → bits_set left other.value ≡ true
-    → count_by (bits_set next) (range_with_len 0 16) < count_by (bits_set left) (range_with_len 0 16)
-left-less left next other less hit =
-    let one = count-one (bits_set next) (bits_set left) other.value 0 16 (omega arith) (omega (arith, other.in_range))
-    (less other.value ∙ ap (λ (b : Bool). not b && bits_set left other.value) (eq-eqb other.value other.value refl)) hit
-    (λ j away. sym (less j ∙ ap (λ (b : Bool). not b && bits_set left j) (ne_eqb j other.value away))) in
-    omega (arith, one)
+    -- one more lease, on a node that is not there
+    pub targets-nowhere : node_at nodes l.target.node ≡ None → AreTargetDomains nodes (with_lease t l) list
+    targets-nowhere gone = record {
+      long = kept.long;
+      each = λ s d f seat n is at. by s d f seat n (is_of s f l) refl is at;
+    } where
+      by : (s : StripeNo) (d : HomeDomains) (f : ℕ) (seat : Seat) (n : NodeInfo) (b : Bool) → is_of s f l ≡ b → option_map target (cond b (Some l) (t.leases s f)) ≡ Some seat → node_at nodes seat.node ≡ Some n
+          → (get_or (get_or list s.value d).faults f 0 ≡ n.fault.value) × (get_or (get_or list s.value d).upgrades f 0 ≡ n.upgrade.value)
+      by s d f seat n true own is at = absurd (let clash : ◌≡◌ {A = Option NodeInfo} None (Some n) = sym gone ∙ (ap (λ (o : Option Seat). node_of o) is ∙ at) in cc) where
+        node_of : Option Seat → Option NodeInfo
+        node_of None = None
+        node_of (Some x) = node_at nodes x.node
+      by s d f seat n false other is at = kept.each s d f seat n is at
+
+    -- one more lease, with the domains of its target's node
+    pub targets-with : (m : NodeInfo) → node_at nodes l.target.node ≡ Some m → (was put : HomeDomains) → was ≡ get_or list l.stripe.value was
+        → put.faults ≡ set was.faults l.fragment.value m.fault.value → put.upgrades ≡ set was.upgrades l.fragment.value m.upgrade.value
+        → AreTargetDomains nodes (with_lease t l) (set list l.stripe.value put)
+    targets-with m found was put here faults upgrades = record {
+      long = length-set list l.stripe.value put ∙ kept.long;
+      each = λ s d f seat n is at. elim (cases_eq l.stripe.value s.value) [
+        | inl same ↦
+            let inside : l.stripe.value < length list = let below = l.stripe.in_range in let long = kept.long in omega (arith, below, long) in
+            let entry : put ≡ get_or (set list l.stripe.value put) s.value d =
+                sym (ap (λ (k : ℕ). get_or (set list l.stripe.value put) k d) (sym same) ∙ get_or-set_same list l.stripe.value put d inside) in
+            let before : AreDomainsOf nodes (targets_in t s) was =
+                subst (λ (h : HomeDomains). AreDomainsOf nodes (targets_in t s) h) (sym (here ∙ ap (λ (k : ℕ). get_or list k was) same)) (kept.each s was) in
+            subst (λ (h : HomeDomains). (get_or h.faults f 0 ≡ n.fault.value) × (get_or h.upgrades f 0 ≡ n.upgrade.value)) entry
+            (domains-with nodes was put l.fragment.value l.fragment.in_range m l.target found faults upgrades (targets_in t s) before f seat n
+            (own s f same (nat_eq l.fragment.value f) refl ∙ is) at)
+        | inr other ↦
+            let entry : get_or list s.value d ≡ get_or (set list l.stripe.value put) s.value d = sym (get_or-set_other list l.stripe.value s.value put d (λ e. other (sym e))) in
+            subst (λ (h : HomeDomains). (get_or h.faults f 0 ≡ n.fault.value) × (get_or h.upgrades f 0 ≡ n.upgrade.value)) entry
+            (kept.each s d f seat n (sym (other-target s f (ap (λ (b : Bool). b && nat_eq l.fragment.value f) (ne_eqb l.stripe.value s.value other))) ∙ is) at)
+      ];
+    } where
+      own : (s : StripeNo) (f : ℕ) → l.stripe.value ≡ s.value → (b : Bool) → nat_eq l.fragment.value f ≡ b
+          → cond (nat_eq l.fragment.value f) (Some l.target) (targets_in t s f) ≡ targets_in (with_lease t l) s f
+      own s f same true e = rw (e, eq-eqb l.stripe.value s.value same) refl
+      own s f same false e = rw (e, eq-eqb l.stripe.value s.value same) refl

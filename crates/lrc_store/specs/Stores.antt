@@ -1,5 +1,5 @@
 -- What a book keeps of a state, and the room that it has.
-use Rattle.std.specs.Prelude.{◌≡◌, ◌≢◌, ◌<◌, ℕ, Bool, ◌&&◌, true, false, if◌then◌else◌, nat_le, List, map, All, Option, Some, None, IsTrue}
+use Rattle.std.specs.Prelude.{◌≡◌, ◌≢◌, ◌<◌, ℕ, Bool, ◌&&◌, true, false, if◌then◌else◌, nat_le, List, length, get_or, map, All, Option, Some, None, option_map, IsTrue}
 use Rattle.lrc_code.specs.declared.numbers.StripeNo.{StripeNo}
 use Rattle.lrc_code.specs.declared.numbers.NodeNo.{NodeNo}
 use Rattle.lrc_code.specs.declared.numbers.Fragment.{Fragment}
@@ -7,12 +7,14 @@ use Rattle.lrc_code.specs.Codes.{has_fragment}
 use Rattle.lrc_topology.specs.declared.NodeInfo.{NodeInfo}
 use Rattle.lrc_topology.specs.Nodes.{AreNodes}
 use Rattle.lrc_slots.specs.Tables.{slots_of}
-use Rattle.lrc_terms.specs.Levels.{homes_of}
+use Rattle.lrc_terms.specs.Levels.{Homes, homes_of}
+use Rattle.lrc_homes.specs.declared.home_domains.HomeDomains.{HomeDomains}
+use Rattle.lrc_homes.specs.Domains.{AreDomainsOf}
 use Rattle.lrc_nodes.specs.declared.node_state.NodeState.{NodeState}
 use Rattle.lrc_stripes.specs.Stored.{Stored}
 use Rattle.lrc_stripes.specs.Tables.{stored_in}
 use Rattle.lrc_terms.specs.declared.lease.Lease.{Lease}
-use Rattle.lrc_terms.specs.Leased.{leased_of}
+use Rattle.lrc_terms.specs.Leased.{Leased, leased_of}
 use Rattle.lrc_leases.specs.Tables.{leased_in}
 use Rattle.lrc_leases.specs.Granted.{granted_in}
 use Rattle.lrc_rules.specs.declared.entry.Entry.{Entry}
@@ -40,6 +42,15 @@ stored_of nodes st spare =
       spare = spare;
     }
 
+-- the targets of a stripe's leases, by the numbers of fragments
+abbrev pub targets_in : Leased → StripeNo → Homes
+targets_in t s f = option_map (λ l. l.target) (t.leases s f)
+
+-- there is an entry for each stripe number, with the domains of the nodes of its leases' targets
+pub record AreTargetDomains (nodes : List NodeInfo) (t : Leased) (list : List HomeDomains) : Type 0 where
+  pub long : length list ≡ 4096
+  pub each : (s : StripeNo) (d : HomeDomains) → AreDomainsOf nodes (targets_in t s) (get_or list s.value d)
+
 -- what is kept is that of a state over these nodes, whose stripes are seated, and none of whose nodes is both gone and draining
 pub record IsOf (st : State) (s : Store) : Type 0 where
   pub known : AreNodes s.topology
@@ -48,6 +59,7 @@ pub record IsOf (st : State) (s : Store) : Type 0 where
   pub table_is : slots_of s.table ≡ kept_table s.topology st
   pub stripes_is : stored_in s.stripes ≡ stored_of s.topology st (stored_in s.stripes).spare
   pub leases_is : leased_in s.leases ≡ leased_of st.leases (leased_in s.leases).spare
+  pub domains_are : AreTargetDomains s.topology (leased_in s.leases) s.target_domains.items
   pub upgrading_is : s.upgrading ≡ st.upgrading
   pub clock_is : s.clock.value ≡ st.clock
 

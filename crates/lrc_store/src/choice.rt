@@ -1,6 +1,6 @@
 //! The choice of a seat, from the slot table and the seats of the stripe's other fragments.
 
-ghost use Rattle.std.specs.Prelude.{◌≡◌, ◌++◌, ◌∷◌, [], true, false, IsTrue, IfSome, IsSome, List, Some, None, map, option_map, is_some, nat_eq};
+ghost use Rattle.std.specs.Prelude.{◌≡◌, ◌++◌, ◌∷◌, [], true, false, IsTrue, IfSome, List, Some, map, option_map, is_some};
 ghost use Rattle.std.specs.List.{All, list_any};
 ghost use Rattle.lrc_code.specs.declared.codes.Code.{Code as AnyCode};
 ghost use Rattle.lrc_code.specs.declared.numbers.StripeNo.{StripeNo};
@@ -15,17 +15,16 @@ ghost use Rattle.lrc_stripes.specs.Tables.{stored_in};
 ghost use Rattle.lrc_rules.specs.States.{State, has_stripe, held_by, seats_of};
 ghost use Rattle.lrc_rules.specs.Placement.{chosen, bars, is_beside};
 ghost use Rattle.lrc_rules.specs.Steps.{with_stripe};
-ghost use Rattle.lrc_bars.specs.Ties.{table_of, bars_in, next_seat, with_homes, closed, with_seat, AreClassMembers};
+ghost use Rattle.lrc_bars.specs.Ties.{table_of, bars_in, next_seat, with_homes, closed, AreClassMembers};
 ghost use Rattle.lrc_store.specs.Stores.{IsOf, IsTied};
 ghost use Rattle.lrc_bars.specs.Planning.{AreBarsOf, row_seat};
-ghost use Rattle.lrc_bars.specs.Neighbouring.{barred_by};
+ghost use Rattle.lrc_bars.specs.Neighbouring.{barred_by, seats_bar};
 
 use crate::store::Store;
-use lrc_bars::{ClassBars, Neighbours};
+use lrc_bars::{ClassBars, Neighbours, OtherSeats};
 use lrc_code::{Class, Code, Fragment, LossMask, StripeNo};
 use lrc_rules::Seat;
 use lrc_slots::{BarredDomains, Barring, OpenRow};
-use lrc_stripes::first_fragment;
 use lrc_topology::NodeInfo;
 
 impl Store {
@@ -81,7 +80,6 @@ impl Store {
     {
         let members = class_members(self.code_of(stripe), fragment);
         let mut more = BarredDomains::new();
-        self.bar_targets(&mut more, stripe, fragment, members);
         self.bar_upgrading(&mut more);
         self.next_beside(&self.neighbours(stripe, fragment, members, &more))
     }
@@ -93,9 +91,8 @@ impl Store {
         ensures { (st : State) → IsOf st self.now → result ≡ list_any (bars self.now.topology st stripe fragment node.now) (seats_of st) }
     {
         let members = class_members(self.code_of(stripe), fragment);
-        let mut targets = BarredDomains::new();
-        self.bar_targets(&mut targets, stripe, fragment, members);
-        self.neighbours(stripe, fragment, members, &targets)
+        let no_more = BarredDomains::new();
+        self.neighbours(stripe, fragment, members, &no_more)
             .bars(node)
     }
 
@@ -119,9 +116,9 @@ impl Store {
         })
     }
 
-    /// Collects what bars nodes for a fragment: the homes of the stripe's other fragments, and `more`. `members` are the
-    /// fragments of its class.
-    #[inline(always)] // as `bar_targets`
+    /// Collects what bars nodes for a fragment: the homes of the stripe's other fragments, the targets of their leases, and
+    /// `more`. `members` are the fragments of its class.
+    #[inline(always)] // so that nothing is copied
     fn neighbours<'a>(
         &'a self,
         stripe: StripeNo,
@@ -129,61 +126,61 @@ impl Store {
         members: LossMask,
         more: &'a BarredDomains,
     ) -> Neighbours<'a>
-        requires { IsTrue ((stored_in self.now.stripes).stripes stripe) }
+        requires tied { IsTied self.now }
+        requires there { IsTrue ((stored_in self.now.stripes).stripes stripe) }
         ensures { (st : State) (code : AnyCode) → IsOf st self.now → AreClassMembers code fragment members
-            → barred_by result ≡ joined (barred more.now) (bars_in self.now.topology code stripe fragment st.homes) }
+            → barred_by result ≡ joined (joined (barred more.now) (bars_in self.now.topology code stripe fragment (map held_by st.leases))) (bars_in self.now.topology code stripe fragment st.homes) }
     {
-        let others = self.stripes.homed(stripe).without(fragment);
-        let members = LossMask::from_bits(others.bits & members.bits);
         Neighbours {
-            homes: self.stripes.domains(stripe),
-            others,
-            members,
+            homes: self.other_homes(stripe, fragment, members),
+            targets: self.other_targets(stripe, fragment, members),
             more,
         }
     }
 
-    /// Bars the domains of the lease targets of the stripe's other fragments. `members` are the fragments of the class of
-    /// `fragment`.
-    #[inline(always)] // so that a stripe without leases makes no call here
-    fn bar_targets(
+    /// The homes of the stripe's other fragments. `members` are the fragments of the class of `fragment`.
+    #[inline(always)] // likewise
+    fn other_homes(
         &self,
-        bars: &mut BarredDomains,
         stripe: StripeNo,
         fragment: Fragment,
         members: LossMask,
-    )
-        requires { IsTied self.now }
-        ensures { (st : State) (code : AnyCode) (seats : List Held) → IsOf st self.now → AreClassMembers code fragment members
-            → barred bars.old ≡ bars_in self.now.topology code stripe fragment seats
-            → barred bars.new ≡ bars_in self.now.topology code stripe fragment (seats ++ map held_by st.leases) }
+    ) -> OtherSeats<'_>
+        requires { IsTrue ((stored_in self.now.stripes).stripes stripe) }
+        ensures { (st : State) (code : AnyCode) → IsOf st self.now → AreClassMembers code fragment members
+            → seats_bar result ≡ bars_in self.now.topology code stripe fragment st.homes }
     {
-        let mut left = self.leases.leased(stripe).without(fragment);
-        while let Some(other) = first_fragment(left) {
-            left = left.without(other);
-            let target = self.leases.target(stripe, other);
-            self.bar_seat(bars, members, other, target);
+        let others = self.stripes.homed(stripe).without(fragment);
+        OtherSeats {
+            domains: self.stripes.domains(stripe),
+            others,
+            members: LossMask::from_bits(others.bits & members.bits),
         }
     }
 
-    /// Bars the domains of the seat of another fragment: its fault domain, and its upgrade domain if that fragment is one of
-    /// `members`, the class of the fragment for which they are barred. The node must be one of the store's.
-    fn bar_seat(&self, bars: &mut BarredDomains, members: LossMask, other: Fragment, seat: Seat)
-        requires known { IsSome (node_at (slots_of self.now.table).nodes seat.node) }
-        ensures { (st : State) (code : AnyCode) (stripe : StripeNo) (fragment : Fragment) → IsOf st self.now → AreClassMembers code fragment members
-            → nat_eq other.value fragment.value ≡ false
-            → barred bars.new ≡ with_seat self.now.topology code stripe fragment (barred bars.old) other (Some seat) }
+    /// The targets of the leases of the stripe's other fragments. `members` are the fragments of the class of `fragment`.
+    #[inline(always)] // likewise
+    fn other_targets(
+        &self,
+        stripe: StripeNo,
+        fragment: Fragment,
+        members: LossMask,
+    ) -> OtherSeats<'_>
+        requires { IsTied self.now }
+        ensures { (st : State) (code : AnyCode) → IsOf st self.now → AreClassMembers code fragment members
+            → seats_bar result ≡ bars_in self.now.topology code stripe fragment (map held_by st.leases) }
     {
-        if members.contains(other) {
-            self.table.bar_domains_of(bars, seat.node);
-        } else {
-            self.table.bar_fault_of(bars, seat.node);
+        let others = self.leases.leased(stripe).without(fragment);
+        OtherSeats {
+            domains: &self.target_domains[stripe.value as usize],
+            others,
+            members: LossMask::from_bits(others.bits & members.bits),
         }
     }
 }
 
 /// Returns the fragments of a fragment's class, itself included; none if the code has no such fragment.
-#[inline(always)] // as `bar_targets`
+#[inline(always)] // as `neighbours`
 fn class_members(code: Code, fragment: Fragment) -> LossMask
     ensures { AreClassMembers code fragment result }
 {

@@ -10,24 +10,26 @@ ghost use Rattle.lrc_store.specs.Stores.{IsOf, IsTied, has_room};
 ghost use Rattle.lrc_bars.specs.Ties.{kept_table};
 
 use crate::clock::Clock;
-use lrc_code::{Code, Fault, Fragment, StripeNo, UpgradeNo};
+use lrc_code::{Code, Fault, Fragment, STRIPES, StripeNo, UpgradeNo};
 use lrc_leases::Leases;
 use lrc_slots::SlotTable;
-use lrc_stripes::Stripes;
+use lrc_stripes::{HomeDomains, Stripes};
 use lrc_topology::Topology;
 use std::alloc::Global;
 
 /// The number of stripes and leases that memory is reserved for at once, so that it is seldom reserved.
 const MORE: u32 = 16;
 
-/// The state of a book: the taken slots; the nodes with their states and the homes of fragments; the live leases; the
-/// upgrade domain that is upgrading; and the clock. Contracts speak of its fields.
+/// The state of a book: the taken slots; the nodes with their states and the homes of fragments; the live leases, with the
+/// domains of their targets; the upgrade domain that is upgrading; and the clock. Contracts speak of its fields.
 #[derive(Drop)]
 pub struct Store {
     pub topology: Topology,
     pub table: SlotTable,
     pub stripes: Stripes,
     pub leases: Leases,
+    /// By stripe number, the domains of the targets of its leases; any value for a fragment without a lease.
+    pub target_domains: Vec<HomeDomains>,
     pub upgrading: Option<UpgradeNo>,
     pub clock: Clock,
 }
@@ -39,12 +41,14 @@ impl Store {
         ensures err { IfErr result (λ e. e ≡ fault.OutOfMemory) }
     {
         let leases = Leases::new(alloc)?;
+        let target_domains = HomeDomains::of_none(alloc, STRIPES)?;
         let (table, stripes) = no_stripes(alloc, &topology)?;
         Ok(Store {
             topology,
             table,
             stripes,
             leases,
+            target_domains,
             upgrading: None,
             clock: Clock::new(),
         })

@@ -1,15 +1,18 @@
 //! Commands of repair leases.
 
-ghost use Rattle.std.specs.Prelude.{◌≡◌, ◌≤◌, ◌++◌, ◌∷◌, [], true, List, IsSome};
+ghost use Rattle.std.specs.Prelude.{◌≡◌, ◌≤◌, ◌++◌, ◌∷◌, [], true, List, length, IsSome};
 ghost use Rattle.lrc_rules.specs.declared.entry.Entry.{Entry};
 ghost use Rattle.lrc_code.specs.declared.numbers.Fragment.{Fragment};
 ghost use Rattle.lrc_rules.specs.States.{State, has_stripe, lease_of};
 ghost use Rattle.lrc_rules.specs.Leases.{lease_outcome, done_outcome, abandon_outcome, revoke_outcome, at_epoch, with_lease};
 ghost use Rattle.lrc_answers.specs.Answers.{told};
+ghost use Rattle.lrc_slots.specs.Tables.{slots_of};
+ghost use Rattle.lrc_terms.specs.Leased as leased;
+ghost use Rattle.lrc_terms.specs.Leased.{Leased};
 ghost use Rattle.lrc_leases.specs.Tables.{leased_in};
 ghost use Rattle.lrc_rules.specs.Changes.{with_done};
 ghost use Rattle.lrc_store.specs.Reports.{reported};
-ghost use Rattle.lrc_store.specs.Stores.{IsOf, IsTied, IsGrant, MayLease, AreGrantsOf, AreFew, has_room};
+ghost use Rattle.lrc_store.specs.Stores.{IsOf, IsTied, IsGrant, MayLease, AreGrantsOf, AreFew, AreTargetDomains, has_room};
 
 use crate::store::Store;
 use lrc_answers::Answer;
@@ -70,6 +73,19 @@ impl Store {
     {
         self.table.take_slot(lease.target.node, lease.target.slot);
         self.leases.add(*lease);
+        self.put_domains(lease);
+    }
+
+    /// Stores the domains of the target of a lease.
+    fn put_domains(&mut self, lease: &Lease)
+        requires { length self.old.target_domains.items ≡ 4096 }
+        ensures rest { self.new ≡ record self.old { target_domains = self.new.target_domains } }
+        ensures kept { (t : Leased) → AreTargetDomains (slots_of self.old.table).nodes t self.old.target_domains.items → AreTargetDomains (slots_of self.old.table).nodes (leased.with_lease t lease.now) self.new.target_domains.items }
+    {
+        if let Some(node) = self.table.node(lease.target.node) {
+            let domains = &mut self.target_domains[lease.stripe.value as usize];
+            domains.put(lease.fragment, &node);
+        }
     }
 
     #[inline(never)]

@@ -1,14 +1,17 @@
 use Rattle.std.proofs.Common.{Bool, sym, ap, ◌∙◌, ◌||◌}
-use Rattle.std.specs.List.{list_any}
-use Rattle.lrc_code.specs.declared.codes.Code.TheVariants.{Wide}
-use Rattle.lrc_code.specs.Codes.{fragments}
-use Rattle.lrc_bars.specs.Neighbouring.{stands_in}
+use Rattle.lrc_bars.specs.Neighbouring.{seats_bar}
 use Rattle.lrc_bars.proofs.neighbours.Neighbours.are_near.Goals as goal
 
-pub returns-else-meet : goal.returns-else-meet
-returns-else-meet c =
-    let homes = c.args.self.now.homes.now in
+pub returns-then-are_near : goal.returns-then-are_near
+returns-then-are_near c =
+    let n = c.args.self.now in
     let node = c.args.node.now in
-    c.meet-else-meet.ensures homes.upgrades node.upgrade.value c.in_upgrade.ensures.on
-    ∙ ap (λ (b : Bool). b || list_any (stands_in homes.upgrades c.args.self.now.members.bits node.upgrade.value) (fragments Wide))
-    (sym c.if-meet.false ∙ c.meet.ensures homes.faults node.fault.value c.in_fault.ensures.on)
+    c.if-are_near.true
+    ∙ ap (λ (b : Bool). b || ((seats_bar n.targets).faults node.fault || (seats_bar n.targets).upgrades node.upgrade)) (sym c.if-are_near.true ∙ c.are_near.ensures)
+
+pub returns-else-are_near : goal.returns-else-are_near
+returns-else-are_near c =
+    let n = c.args.self.now in
+    let node = c.args.node.now in
+    c.are_near-else-are_near.ensures
+    ∙ ap (λ (b : Bool). b || ((seats_bar n.targets).faults node.fault || (seats_bar n.targets).upgrades node.upgrade)) (sym c.if-are_near.false ∙ c.are_near.ensures)

@@ -1,41 +1,10 @@
-use Rattle.std.proofs.Common.{◌≡◌, List, length, take, get_or, ap, refl, subst, arith, ◌∙◌}
-use Rattle.std.proofs.lemmas.List.{take_all}
-use Rattle.lrc_code.specs.declared.codes.Code.TheVariants.{Wide}
-use Rattle.lrc_code.specs.declared.numbers.Fragment.{Fragment}
-use Rattle.lrc_code.specs.Codes.{fragments}
-use Rattle.lrc_slots.specs.Barred.{Barred, joined}
-use Rattle.lrc_slots.specs.BarredNodes.{AreBarredNodes}
-use Rattle.lrc_slots.specs.Tables.{slots_of, barred}
-use Rattle.lrc_bars.specs.Neighbouring.{homes_bar, with_home_fault}
-use Rattle.lrc_bars.proofs.NeighbourLemmas.{homes-none, homes-more}
+use Rattle.lrc_slots.specs.Barred.{joined}
+use Rattle.lrc_slots.specs.Tables.{barred}
+use Rattle.lrc_bars.specs.Neighbouring.{seats_bar}
 use Rattle.lrc_bars.proofs.neighbours.NeighboursBarring.nodes_in.Goals as goal
-
-pub loop-fragment-init : goal.loop-fragment-init
-loop-fragment-init c =
-    let n = c.args.self.now in record {
-      barred_are = subst (λ (b : Barred). AreBarredNodes (slots_of c.args.table.now).nodes b c.nodes_in-barred_nodes.result)
-          (homes-none (barred n.more.now) n.homes.now.faults n.homes.now.upgrades n.others.bits n.members.bits) c.nodes_in-barred_nodes.ensures;
-      all = c.all.ensures;
-    }
-
-pub loop-fragment-preserved : goal.loop-fragment-preserved
-loop-fragment-preserved c =
-    let n = c.args.self.now in
-    let i = c.loop-fragment.fragment-index in
-    let long : length c.all.result ≡ 16 = rw c.loop-fragment.invariant.all refl in
-    let so_far = joined (barred n.more.now) (homes_bar n.homes.now.faults n.homes.now.upgrades n.others.bits n.members.bits (take i c.all.result)) in
-    let with_fault = with_home_fault so_far n.homes.now.faults n.others.bits (get_or c.all.result i c.fragment-item.result) in record {
-      barred_are = subst (λ (b : Barred). AreBarredNodes (slots_of c.args.table.now).nodes b c.bar_upgrade.new.barred_nodes)
-          (homes-more (barred n.more.now) n.homes.now.faults n.homes.now.upgrades n.others.bits n.members.bits c.all.result i c.fragment-item.result (omega (arith, long)))
-          (c.bar_upgrade.ensures with_fault (c.bar_fault.ensures so_far c.loop-fragment.invariant.barred_are));
-      all = c.loop-fragment.invariant.all;
-    }
 
 pub returns : goal.returns
 returns c =
     let n = c.args.self.now in
-    let i = c.loop-fragment.fragment-index in
-    let whole : take i c.all.result ≡ fragments Wide = ap (take i) c.loop-fragment.invariant.all ∙ take_all i (fragments Wide) (omega arith) in
-    subst (λ (fs : List Fragment). AreBarredNodes (slots_of c.args.table.now).nodes
-    (joined (barred n.more.now) (homes_bar n.homes.now.faults n.homes.now.upgrades n.others.bits n.members.bits fs)) c.loop-fragment.barred_nodes)
-    whole c.loop-fragment.invariant.barred_are
+    let more = barred n.more.now in
+    c.bar-2.ensures (joined more (seats_bar n.targets)) (c.bar.ensures more c.nodes_in-barred_nodes.ensures)

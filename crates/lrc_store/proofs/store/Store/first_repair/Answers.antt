@@ -3,7 +3,7 @@ use Rattle.lrc_code.specs.declared.numbers.Fragment.{Fragment}
 use Rattle.lrc_terms.specs.Stripes.{StripeFragment}
 use Rattle.lrc_store.specs.declared.repair.Repair.{Repair}
 use Rattle.lrc_store.proofs.NextRepairLemmas.{not-waiting, none-left, grantable-past, first-grantable}
-use Rattle.lrc_store.proofs.TargetLemmas.{left-less}
+use Rattle.lrc_store.proofs.LeftLemmas.{left-less}
 use Rattle.lrc_store.proofs.store.Store.first_repair.Goals as goal
 
 pub loop-fragment-init : goal.loop-fragment-init

@@ -1,10 +1,11 @@
-use Rattle.std.proofs.Common.{[], ap, subst, ◌∙◌, map}
+use Rattle.std.proofs.Common.{ap, subst, ◌∙◌, map}
 use Rattle.lrc_slots.specs.Slots.{Slots}
-use Rattle.lrc_slots.specs.Barred.{Barred, joined}
+use Rattle.lrc_slots.specs.Barred.{Barred, no_bars, joined}
 use Rattle.lrc_code.specs.declared.codes.Code.{Code}
 use Rattle.lrc_rules.specs.States.{code_of, held_by}
 use Rattle.lrc_bars.specs.Ties.{bars_in, bars_of, next_seat, kept_table, closed, AreClassMembers}
 use Rattle.lrc_bars.specs.Neighbouring.{barred_by}
+use Rattle.lrc_bars.proofs.ClassBarLemmas.{closed-joined}
 use Rattle.lrc_bars.proofs.ClosedLemmas.{closed-seat}
 use Rattle.lrc_bars.proofs.NeighbourLemmas.{homes-beside}
 use Rattle.lrc_bars.proofs.PlanLemmas.{table-chosen}
@@ -18,8 +19,10 @@ returns c = λ st kept.
     let code = code_of st s in
     let members = subst (λ (own : Code). AreClassMembers own f c.class_members-members.result) (c.code_of.ensures st kept) c.class_members-members.ensures in
     let homes = bars_in nodes code s f st.homes in
-    let more = c.bar_upgrading.ensures st kept ∙ ap (closed st.upgrading) (c.bar_targets.ensures st code [] kept members c.new-more.ensures) in
-    let beside = c.neighbours.ensures st code kept members ∙ ap (λ (b : Barred). joined b homes) more ∙ homes-beside nodes code s f st.upgrading st.homes (map held_by st.leases) in
+    let targets = bars_in nodes code s f (map held_by st.leases) in
+    let more = c.bar_upgrading.ensures st kept ∙ ap (closed st.upgrading) c.new-more.ensures in
+    let beside = c.neighbours.ensures st code kept members ∙ ap (λ (b : Barred). joined (joined b targets) homes) more
+        ∙ ap (λ (b : Barred). joined b homes) (closed-joined st.upgrading no_bars targets) ∙ homes-beside nodes code s f st.upgrading st.homes (map held_by st.leases) in
     c.next_beside.ensures
     ∙ ap (λ (t : Slots). next_seat t (barred_by c.neighbours.result)) kept.table_is
     ∙ ap (next_seat (kept_table nodes st)) beside
