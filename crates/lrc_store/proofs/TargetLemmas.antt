@@ -40,9 +40,9 @@ module _ (nodes : List NodeInfo) (t : Leased) (list : List HomeDomains) where
   pub targets-without : (s : StripeNo) (f : Fragment) (u : Leased) (spare : ℕ) → u ≡ with_spare (without_lease t s f) spare → AreTargetDomains nodes t list → AreTargetDomains nodes u list
   targets-without s f u spare is = targets-within u (λ r g l there.
       left (same_stripe s r && nat_eq f.value g) (t.leases r g) l (sym (ap (λ (x : Leased). x.leases r g) is) ∙ there)) where
-    left : (b : Bool) (o : Option Lease) (l : Lease) → cond b None o ≡ Some l → o ≡ Some l
-    left true o l e = absurd (cc)
-    left false o l e = e
+        left : (b : Bool) (o : Option Lease) (l : Lease) → cond b None o ≡ Some l → o ≡ Some l
+        left true o l e = absurd (cc)
+        left false o l e = e
 
   -- there is room for more
   pub targets-spare : (u : Leased) (spare : ℕ) → u ≡ with_spare t spare → AreTargetDomains nodes t list → AreTargetDomains nodes u list
@@ -84,9 +84,9 @@ module _ (nodes : List NodeInfo) (t : Leased) (list : List HomeDomains) where
         | inl same ↦
             let inside : l.stripe.value < length list = let below = l.stripe.in_range in let long = kept.long in omega (arith, below, long) in
             let entry : put ≡ get_or (set list l.stripe.value put) s.value d =
-                sym (ap (λ (k : ℕ). get_or (set list l.stripe.value put) k d) (sym same) ∙ get_or-set_same list l.stripe.value put d inside) in
+            sym (ap (λ (k : ℕ). get_or (set list l.stripe.value put) k d) (sym same) ∙ get_or-set_same list l.stripe.value put d inside) in
             let before : AreDomainsOf nodes (targets_in t s) was =
-                subst (λ (h : HomeDomains). AreDomainsOf nodes (targets_in t s) h) (sym (here ∙ ap (λ (k : ℕ). get_or list k was) same)) (kept.each s was) in
+            subst (λ (h : HomeDomains). AreDomainsOf nodes (targets_in t s) h) (sym (here ∙ ap (λ (k : ℕ). get_or list k was) same)) (kept.each s was) in
             subst (λ (h : HomeDomains). (get_or h.faults f 0 ≡ n.fault.value) × (get_or h.upgrades f 0 ≡ n.upgrade.value)) entry
             (domains-with nodes was put l.fragment.value l.fragment.in_range m l.target found faults upgrades (targets_in t s) before f seat n
             (own s f same (nat_eq l.fragment.value f) refl ∙ is) at)

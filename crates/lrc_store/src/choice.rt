@@ -140,12 +140,7 @@ impl Store {
 
     /// The homes of the stripe's other fragments. `members` are the fragments of the class of `fragment`.
     #[inline(always)] // likewise
-    fn other_homes(
-        &self,
-        stripe: StripeNo,
-        fragment: Fragment,
-        members: LossMask,
-    ) -> OtherSeats<'_>
+    fn other_homes(&self, stripe: StripeNo, fragment: Fragment, members: LossMask) -> OtherSeats<'_>
         requires { IsTrue ((stored_in self.now.stripes).stripes stripe) }
         ensures { (st : State) (code : AnyCode) → IsOf st self.now → AreClassMembers code fragment members
             → seats_bar result ≡ bars_in self.now.topology code stripe fragment st.homes }

@@ -22,7 +22,7 @@ returns c = λ st kept.
     let targets = bars_in nodes code s f (map held_by st.leases) in
     let more = c.bar_upgrading.ensures st kept ∙ ap (closed st.upgrading) c.new-more.ensures in
     let beside = c.neighbours.ensures st code kept members ∙ ap (λ (b : Barred). joined (joined b targets) homes) more
-        ∙ ap (λ (b : Barred). joined b homes) (closed-joined st.upgrading no_bars targets) ∙ homes-beside nodes code s f st.upgrading st.homes (map held_by st.leases) in
+    ∙ ap (λ (b : Barred). joined b homes) (closed-joined st.upgrading no_bars targets) ∙ homes-beside nodes code s f st.upgrading st.homes (map held_by st.leases) in
     c.next_beside.ensures
     ∙ ap (λ (t : Slots). next_seat t (barred_by c.neighbours.result)) kept.table_is
     ∙ ap (next_seat (kept_table nodes st)) beside
