@@ -53,6 +53,6 @@ pub record AreBarsOf (nodes : List NodeInfo) (code : Code) (upgrading : Option U
   pub upgrades : (c : Class) → AreBarredNodes nodes (upgrade_bars nodes code c seats) (upgrades_for b c)
   pub classes : length b.upgrades ≡ 3
 
--- the seat that a node lent by the table and its least free slot are
+-- (internal) the seat that a node lent by the table and its least free slot are
 abbrev pub row_seat : OpenRow → Seat
 row_seat o = record { node = o.node.now.number; slot = o.slot }

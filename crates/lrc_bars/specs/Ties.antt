@@ -57,16 +57,16 @@ abbrev pub closed : Option UpgradeNo → Barred → Barred
 closed None b = b
 closed (Some u) b = with_upgrade b u
 
--- what is barred, with what one more seat bars
+-- (internal) what is barred, with what one more seat bars
 abbrev pub with_held : List NodeInfo → Code → StripeNo → Fragment → Barred → Held → Barred
 with_held nodes code s f b h =
     record { faults = λ d. b.faults d || bars_fault nodes s f d h; upgrades = λ d. b.upgrades d || bars_upgrade nodes code s f d h }
 
--- the mask has the fragments that share the fragment's class
+-- (internal) the mask has the fragments that share the fragment's class
 abbrev pub AreClassMembers : Code → Fragment → LossMask → Type 0
 AreClassMembers code f members = (g : Fragment) → bits_set members.bits g.value ≡ share_class code f g
 
--- the same with a seat of another fragment of the stripe, if it has one
+-- (internal) the same with a seat of another fragment of the stripe, if it has one
 abbrev pub with_seat : List NodeInfo → Code → StripeNo → Fragment → Barred → Fragment → Option Seat → Barred
 with_seat nodes code s f b other None = b
 with_seat nodes code s f b other (Some seat) = with_held nodes code s f b (record { stripe = s; fragment = other; seat = seat })

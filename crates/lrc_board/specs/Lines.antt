@@ -8,7 +8,7 @@ use Rattle.lrc_rules.specs.declared.command.Command.TheVariants.{Next}
 use Rattle.lrc_rules.specs.declared.reply.Reply.TheVariants.{Idle}
 use Rattle.lrc_board.specs.declared.line.Line.{Line}
 
--- the request of a step that writes no line
+-- (internal) the request of a step that writes no line
 abbrev pub no_line : Line
 no_line = record { entry = record { session = record { value = 1; in_range = (lit≤ tt, lit≤ tt) }; command = Next; reply = Idle }; by = 0; next = 0 }
 
@@ -17,39 +17,40 @@ abbrev pub written : ℕ → List Line → List Entry
 written permit [] = []
 written permit (l ∷ ls) = cond (l.by == permit) (l.entry ∷ written l.next ls) (written permit ls)
 
--- the permit for the next line
+-- (internal) the permit for the next line
 abbrev pub permit_after : ℕ → List Line → ℕ
 permit_after permit [] = permit
 permit_after permit (l ∷ ls) = cond (l.by == permit) (permit_after l.next ls) (permit_after permit ls)
 
--- this permit has written no line
+-- (internal) this permit has written no line
 abbrev pub IsUnused : ℕ → List Line → Type 0
 IsUnused permit [] = Unit {0}
 IsUnused permit (l ∷ ls) = (l.by ≢ permit) × IsUnused permit ls
 
--- the cell of each permit that wrote is back in the book of the log
+-- (internal) the cell of each permit that wrote is back in the book of the log
 abbrev pub AreReturned : List Cell → List Line → Type 0
 AreReturned cells [] = Unit {0}
 AreReturned cells (l ∷ ls) = ((cell cells l.by).1 ≡ true) × AreReturned cells ls
 
--- The rule of the log. The first word only serves the atomic steps, and its value means nothing.
+-- (internal) The rule of the log. The first word only serves the atomic steps, and its value means nothing.
 -- A permit returns its cell when it writes, so a permit whose cell is not returned has written nothing.
 pub record IsKept (cells : List Cell) (lines : List Line) : Type 0 where
   pub word : (cell cells 0).1 ≡ true
   pub permits : AreReturned cells lines
 
+-- (internal) the word that the rule begins with
 abbrev pub word_of : Book → Named
 word_of b = record { tracked = true; key = 0; book = b }
 
--- there is a new permit
+-- (internal) there is a new permit
 abbrev pub MakesPermit : Step Line → View Line ℕ → ℕ → View Line ℕ → Type 0
 MakesPermit s v found w = w.1.0.right ≡ may_make
 
--- the permit is unchanged and has written nothing
+-- (internal) the permit is unchanged and has written nothing
 abbrev pub FindsUnused : Step Line → View Line ℕ → ℕ → View Line ℕ → Type 0
 FindsUnused s v found w = IsUnused v.1.0.key w.0 × (w.1.0 ≡ v.1.0)
 
--- the permit has written this line after all others
+-- (internal) the permit has written this line after all others
 abbrev pub AppendsLine : Step Line → View Line ℕ → ℕ → View Line ℕ → Type 0
 AppendsLine s v found w =
     (log : List Line) × IsPrefix v.0 log × IsUnused v.1.0.key log

@@ -23,23 +23,23 @@ use Rattle.lrc_board.specs.Lines.{written}
 abbrev pub Rows : Type 0
 Rows = List (Option StripeHomes)
 
--- the code of a stripe, and its homes by the sixteen fragment numbers, in a state
+-- (internal) the code of a stripe, and its homes by the sixteen fragment numbers, in a state
 unfoldable pub homes_row : State → StripeNo → Option StripeHomes
 homes_row st s = if has_stripe st s then Some (record { code = code_of st s; homes = map (λ f. homes_of st.homes s f.value) (fragments Wide) }) else None
 
--- the rows of the first `count` stripe numbers
+-- (internal) the rows of the first `count` stripe numbers
 abbrev pub rows_by : ℕ → (StripeNo → Option StripeHomes) → Rows
 rows_by count row = map (λ k. row (stripe_at k)) (range_with_len 0 count)
 
--- the row of each of the 4,096 stripe numbers, in a state
+-- (internal) the row of each of the 4,096 stripe numbers, in a state
 unfoldable pub rows_of : State → Rows
 rows_of st = rows_by 4096 (homes_row st)
 
--- a test of the first `count` node numbers
+-- (internal) a test of the first `count` node numbers
 abbrev pub flags_by : ℕ → (NodeNo → Bool) → List Bool
 flags_by count test = map (λ k. test (record { value = k })) (range_with_len 0 count)
 
--- for each of the 65,536 node numbers, the store has the node and it is online in a state
+-- (internal) for each of the 65,536 node numbers, the store has the node and it is online in a state
 unfoldable pub online_of : List NodeInfo → State → List Bool
 online_of nodes st = flags_by 65536 (online_at nodes st)
 
@@ -55,22 +55,22 @@ pub record BoardView : Type 0 where
   pub book : Book
   pub lines : List Line
 
--- the entries that a board follows from, if the log begins with this permit
+-- (internal) the entries that a board follows from, if the log begins with this permit
 abbrev pub published : ℕ → BoardView → List Entry
 published start x = written start x.lines
 
--- these rows and nodes, and these loads, are those after the history
+-- (internal) these rows and nodes, and these loads, are those after the history
 abbrev pub AreAfter : List NodeInfo → List Entry → Rows → List Bool → Loads → Type 0
 AreAfter nodes history rows online loads =
     ((rows ≡ rows_of (state_after nodes history)) × (online ≡ online_of nodes (state_after nodes history))) × (loads ≡ loads_after nodes history)
 
--- The board is the board of its entries, which are legal and are in this log.
+-- (internal) The board is the board of its entries, which are legal and are in this log.
 pub record IsBoard (book : Book) (start : ℕ) (nodes : List NodeInfo) (x : BoardView) : Type 0 where
   pub named : x.book ≡ book
   pub count_is : x.count ≡ length (published start x)
   pub shows : AreAfter nodes (published start x) x.rows x.online x.loads
   pub legal : IsLegal nodes (published start x)
 
--- the board of a log without entries
+-- (internal) the board of a log without entries
 abbrev pub empty_board : List NodeInfo → Book → BoardView
 empty_board nodes book = record { rows = rows_of opening; online = online_of nodes opening; loads = loads_after nodes []; count = 0; book = book; lines = [] }

@@ -1,16 +1,18 @@
 -- What contracts see of a book.
-use Rattle.std.specs.Prelude.{◌≡◌, ℕ, ◌+◌, ◌<◌, ◌⊎◌, ◌++◌, Bool, List, [], length, Option, Some, None}
+use Rattle.std.specs.Prelude.{◌≡◌, ℕ, ◌+◌, ◌<◌, ◌⊎◌, ◌++◌, Bool, IsFalse, List, [], length, Option, Some, None}
 use Rattle.std.specs.Global.{Box}
 use Rattle.lrc_code.specs.declared.fault.Fault.{Fault}
 use Rattle.lrc_code.specs.declared.numbers.StripeNo.{StripeNo}
+use Rattle.lrc_code.specs.declared.numbers.NodeNo.{NodeNo}
 use Rattle.lrc_code.specs.declared.numbers.Fragment.{Fragment}
 use Rattle.lrc_code.specs.declared.fault.Fault.TheVariants.{OutOfMemory, HistoryFull}
 use Rattle.lrc_topology.specs.declared.NodeInfo.{NodeInfo}
 use Rattle.lrc_topology.specs.Nodes.{AreNodes}
 use Rattle.lrc_rules.specs.declared.entry.Entry.{Entry}
-use Rattle.lrc_rules.specs.States.{State}
+use Rattle.lrc_rules.specs.States.{State, load, level_shown}
+use Rattle.lrc_rules.specs.Touching.{can_change_level, can_change_load}
 use Rattle.lrc_rules.specs.Leases.{grants}
-use Rattle.lrc_rules.specs.Histories.{World, first_world, outcome_in, world_from, state_from, IsLegalFrom}
+use Rattle.lrc_rules.specs.Histories.{World, first_world, outcome_in, next_world, world_from, state_from, IsLegalFrom}
 use Rattle.lrc_images.specs.declared.image.Image.{Image}
 use Rattle.lrc_images.specs.Images.{image_world}
 use Rattle.lrc_images.specs.Causes.{most_grants, most_ticks, most_entries}
@@ -29,12 +31,12 @@ pub record BookView : Type 0 where
 
 -- ---- the world in which a book began
 
--- the world of the image, or the first world where there is no image
+-- (internal) the world of the image, or the first world where there is no image
 abbrev pub base_world : Option (Box Image) → World
 base_world None = first_world
 base_world (Some image) = image_world image.value
 
--- the number of entries before it
+-- (internal) the number of entries before it
 abbrev pub entries_before : Option (Box Image) → ℕ
 entries_before None = 0
 entries_before (Some image) = image.value.before
@@ -57,6 +59,18 @@ FaultFits b HistoryFull = length b.history ≡ b.limit
 -- the entry is the next one of the book: its reply is what the step answers to its command after the history
 abbrev pub IsStep : BookView → Entry → Type 0
 IsStep b e = (outcome_in b.nodes (world_of b) e.session e.command).0 ≡ e.reply
+
+-- the state after the entry, as the book's next one
+abbrev pub state_with : BookView → Entry → State
+state_with b e = (next_world b.nodes (world_of b) e).state
+
+-- What the entry changes of the published view: the levels of the stripes and the loads of the nodes for which the two tests
+-- hold, and no others. Each of these is that of the state after the entry.
+pub record ChangesTheseAlone (b : BookView) (e : Entry) : Type 0 where
+  pub levels : (s : StripeNo) → IsFalse (can_change_level b.nodes (state_of b) s e.command)
+      → level_shown b.nodes (state_with b e) s ≡ level_shown b.nodes (state_of b) s
+  pub loads : (n : NodeNo) → IsFalse (can_change_load (state_of b) n e.command e.reply)
+      → load (state_with b e) n ≡ load (state_of b) n
 
 -- no book can begin in the state: a count of grants, the clock or the number of entries is above the most with which one
 -- can

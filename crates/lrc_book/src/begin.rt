@@ -3,7 +3,7 @@
 ghost use Rattle.std.specs.Prelude.{◌≡◌, [], None, IfOk, IfErr, IsOk};
 ghost use Rattle.lrc_images.specs.Images.{image_world};
 ghost use Rattle.lrc_images.specs.Causes.{first_cause};
-ghost use Rattle.lrc_restore.specs.Refused.{IsRefusedBy};
+ghost use Rattle.lrc_restore.specs.Refused.{IsRefusedFor};
 
 use crate::{Book, HISTORY_LIMIT};
 use lrc_images::Image;
@@ -21,7 +21,7 @@ impl Book {
     pub fn begin(alloc: Global, topology: Topology, image: Image) -> Result<Book, BeginError>
         ensures value { IfOk result (λ b. (b.nodes ≡ topology) × (b.limit ≡ 1000000) × (b.history ≡ []) × (b.base ≡ image_world image) × (b.before ≡ image.before)) }
         ensures lawful { IsOk result → first_cause topology image ≡ None }
-        ensures refused { IfErr result (IsRefusedBy (first_cause topology image)) }
+        ensures refused { IfErr result (IsRefusedFor (first_cause topology image)) }
     {
         let image = Box::new(alloc, image)?;
         let (store, grants) = restore(alloc, topology, &image)?;

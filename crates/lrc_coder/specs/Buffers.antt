@@ -29,7 +29,7 @@ bytes_at buffers i f = get_or (buffer_at buffers f) i 0
 abbrev pub each_of : List ℕ → ℕ → ℕ
 each_of coefficients f = get_or coefficients f 0
 
--- at each position there is what was there plus the coefficient times the source's byte
+-- (internal) at each position there is what was there plus the coefficient times the source's byte
 pub record IsProductAdded (coefficient : ℕ) (source before after : List ℕ) : Type 0 where
   pub long : length after ≡ length before
   pub bytes : (i : ℕ) → i < length before → get_or after i 0 ≡ plus (get_or before i 0) (times coefficient (get_or source i 0))

@@ -20,7 +20,7 @@ use Rattle.lrc_field.proofs.MemberLemmas.{fragments_below}
 use Rattle.lrc_coding.specs.declared.refusal.RecipeRefusal.{RecipeRefusal}
 use Rattle.lrc_coding.specs.declared.refusal.RecipeRefusal.TheVariants.{NoMask, NoFragment, NotMissing, Undetermined}
 use Rattle.lrc_coding.specs.Answers.{coefficient_in, IsNumberOf, IsAnswerTo, IsAnswer}
-use Rattle.lrc_coding.specs.Told.{sources_of}
+use Rattle.lrc_coding.specs.Told.{fragments_read}
 use Rattle.lrc_coding.proofs.NumberLemmas.{few_fragments}
 
 -- ---- the sum of what is read
@@ -64,7 +64,7 @@ module _ (c : ℕ → ℕ) where
       filter-append (read_by c) (numbers_of Narrow) (10 ∷ 11 ∷ 12 ∷ 13 ∷ 14 ∷ 15 ∷ [])
       ∙ ap (λ t. filter (read_by c) (numbers_of Narrow) ++ t) (none_more m f is) ∙ append-nil (filter (read_by c) (numbers_of Narrow))
 
-  pub enough : (code : Code) (m : FragmentSet) (f : ℕ) (v : Bytes) → IsRecipe code m f c → IsStripe code v → v f ≡ sum_of c v (map (λ g. g.value) (sources_of c))
+  pub enough : (code : Code) (m : FragmentSet) (f : ℕ) (v : Bytes) → IsRecipe code m f c → IsStripe code v → v f ≡ sum_of c v (map (λ g. g.value) (fragments_read c))
   enough code m f v is stripe =
       is.exact v stripe ∙ read_alone v stripe.bytes (numbers_of code)
       ∙ ap (sum_of c v) (sym (values (fragments Wide) ∙ read_numbers code m f is))
@@ -72,14 +72,14 @@ module _ (c : ℕ → ℕ) where
   -- ---- which are read
 
   pub standing : (code : Code) (m : FragmentSet) (f : ℕ) → IsRecipe code m f c
-      → All (λ (g : Fragment). (g.value < fragment_count code) × (IsFalse (m g.value) × (g.value ≢ f))) (sources_of c)
+      → All (λ (g : Fragment). (g.value < fragment_count code) × (IsFalse (m g.value) × (g.value ≢ f))) (fragments_read c)
   standing code m f is =
       All-weaker (λ (g : Fragment). read_by c g.value ≡ true) (λ (g : Fragment). (g.value < fragment_count code) × (IsFalse (m g.value) × (g.value ≢ f)))
       (λ g hit.
       let parts = and_parts (not (m g.value)) (not (nat_eq g.value f)) (is.standing g.value hit) in
       let away : g.value ≢ f = λ same. let never : true ≡ false = sym (eq-eqb g.value f same) ∙ not-true (nat_eq g.value f) parts.1 in absurd (cc) in
       (is.within g.value hit, (not-true (m g.value) parts.0, away)))
-      (sources_of c) (filter_passes (λ (g : Fragment). read_by c g.value) (fragments Wide))
+      (fragments_read c) (filter_passes (λ (g : Fragment). read_by c g.value) (fragments Wide))
 
   -- what is not missing determines a fragment that has a recipe
   pub determined : (code : Code) (m : FragmentSet) (f : ℕ) → IsRecipe code m f c → Determines code (outside m) f

@@ -15,8 +15,8 @@ pub use Rattle.lrc_coding.specs.Answers.{coefficient_in}
 -- ---- recipes
 
 -- the fragments that are read, in rising order
-abbrev pub sources_of : (ℕ → ℕ) → List Fragment
-sources_of coefficient = filter (λ g. read_by coefficient g.value) (fragments Wide)
+abbrev pub fragments_read : (ℕ → ℕ) → List Fragment
+fragments_read coefficient = filter (λ g. read_by coefficient g.value) (fragments Wide)
 
 -- the row of a fragment that is read
 abbrev pub source_row : (ℕ → ℕ) → Fragment → List ℕ
@@ -24,16 +24,16 @@ source_row coefficient g = decimal g.value ++ codes "," ++ decimal (coefficient 
 
 -- the table of a recipe
 abbrev pub recipe_text : (ℕ → ℕ) → List ℕ
-recipe_text coefficient = codes "source,coefficient\n" ++ flat_map (source_row coefficient) (sources_of coefficient)
+recipe_text coefficient = codes "source,coefficient\n" ++ flat_map (source_row coefficient) (fragments_read coefficient)
 
 -- ---- refusals
 
 -- why no recipe is told, in words
-abbrev pub refusal_words : RecipeRefusal → List ℕ
-refusal_words NoMask = codes "this is no set of fragments of the code"
-refusal_words NoFragment = codes "the code has no such fragment"
-refusal_words (NotMissing _) = codes "the fragment is not missing, so it is its own source"
-refusal_words (Undetermined _) = codes "what is not missing does not determine the fragment"
+abbrev pub recipe_refusal_words : RecipeRefusal → List ℕ
+recipe_refusal_words NoMask = codes "this is no set of fragments of the code"
+recipe_refusal_words NoFragment = codes "the code has no such fragment"
+recipe_refusal_words (NotMissing _) = codes "the fragment is not missing, so it is its own source"
+recipe_refusal_words (Undetermined _) = codes "what is not missing does not determine the fragment"
 
 -- which word of the command line this is about
 abbrev pub refusal_place : RecipeRefusal → List ℕ
@@ -43,8 +43,8 @@ refusal_place (NotMissing f) = codes "fragment " ++ decimal f.value ++ codes "\n
 refusal_place (Undetermined f) = codes "fragment " ++ decimal f.value ++ codes "\n"
 
 -- the line of standard error
-abbrev pub refusal_text : RecipeRefusal → List ℕ
-refusal_text refusal = codes "lrcman: " ++ refusal_words refusal ++ codes ": " ++ refusal_place refusal
+abbrev pub recipe_refusal_text : RecipeRefusal → List ℕ
+recipe_refusal_text refusal = codes "lrcman: " ++ recipe_refusal_words refusal ++ codes ": " ++ refusal_place refusal
 
 -- ---- matrices
 

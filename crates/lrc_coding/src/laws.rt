@@ -10,14 +10,14 @@ ghost use Rattle.lrc_field.specs.Recipes.{IsRecipe};
 ghost use Rattle.lrc_field.specs.Stripes.{Bytes, IsStripe, sum_of};
 ghost use Rattle.lrc_coding.specs.declared.refusal.RecipeRefusal.{RecipeRefusal as AnyRefusal};
 ghost use Rattle.lrc_coding.specs.Answers.{IsAnswer};
-ghost use Rattle.lrc_coding.specs.Told.{sources_of};
+ghost use Rattle.lrc_coding.specs.Told.{fragments_read};
 
 /// The rows of a recipe are of fragments of the code, none of them missing, and none the fragment itself. They suffice: byte by byte, the fragment is their sum, each times its coefficient.
 pub fn rows_rebuild_the_fragment()
     ensures standing { (code : Code) (m : FragmentSet) (f : ℕ) (c : ℕ → ℕ) → IsRecipe code m f c →
-        All (λ (g : Fragment). (g.value < fragment_count code) × (IsFalse (m g.value) × (g.value ≢ f))) (sources_of c) }
+        All (λ (g : Fragment). (g.value < fragment_count code) × (IsFalse (m g.value) × (g.value ≢ f))) (fragments_read c) }
     ensures enough { (code : Code) (m : FragmentSet) (f : ℕ) (c : ℕ → ℕ) (v : Bytes) → IsRecipe code m f c → IsStripe code v →
-        v f ≡ sum_of c v (map (λ g. g.value) (sources_of c)) }
+        v f ≡ sum_of c v (map (λ g. g.value) (fragments_read c)) }
 {}
 
 /// A question that is answered by a recipe is answered by no refusal, and another one by one refusal only.

@@ -1,5 +1,5 @@
 ghost use Rattle.std.specs.Prelude.{◌≡◌, ◌++◌, string_bytes, OnOk};
-ghost use Rattle.lrc_coding.specs.Told.{refusal_words, refusal_place, refusal_text};
+ghost use Rattle.lrc_coding.specs.Told.{recipe_refusal_words, refusal_place, recipe_refusal_text};
 
 use lrc_code::Fragment;
 use std::alloc::AllocError;
@@ -20,7 +20,7 @@ pub enum RecipeRefusal {
 impl RecipeRefusal {
     /// Returns why, in words.
     pub fn words(self) -> &'static str
-        ensures { result.now ≡ refusal_words self }
+        ensures { result.now ≡ recipe_refusal_words self }
     {
         match self {
             RecipeRefusal::NoMask => "this is no set of fragments of the code",
@@ -36,7 +36,7 @@ impl RecipeRefusal {
     ///
     /// Only for want of memory; then a beginning of the line may have been added.
     pub fn push_text(self, out: &mut String) -> Result<(), AllocError>
-        ensures { OnOk result (string_bytes out.new ≡ string_bytes out.old ++ refusal_text self) }
+        ensures { OnOk result (string_bytes out.new ≡ string_bytes out.old ++ recipe_refusal_text self) }
     {
         let words = self.words();
         write!(out, "lrcman: {words}: ")?;

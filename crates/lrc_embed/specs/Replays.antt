@@ -53,7 +53,7 @@ abbrev pub IsDifferent : LrcEntry → BookView → Type 0
 IsDifferent c b =
     (session : SessionNo) × (command : Command) × IsReadAs c session command × (c.reply ≢ encoded_reply (outcome_in b.nodes (world_of b) session command).0)
 
--- the history grew by the entry of the struct, with the reply of the step
+-- (internal) the history grew by the entry of the struct, with the reply of the step
 abbrev pub IsRepeat : LrcEntry → BookView → BookView → Type 0
 IsRepeat c b after =
     (e : Entry) × IsEntry c e × ((outcome_in b.nodes (world_of b) e.session e.command).0 ≡ e.reply)

@@ -1,14 +1,9 @@
 -- Internal: no public clause reaches these definitions.
--- The stored form of the homes of a stripe: the nodes and the slots as numbers, the fragments that have a home as bits, and the domains of the nodes.
+-- The stored form of the homes of a stripe: the nodes and the slots as numbers, and the fragments that have a home as bits.
 use Rattle.std.specs.Prelude.{◌≡◌, ◌<◌, ℕ, List, map, length, get_or, if◌then◌else◌, Option, Some, None}
 use Rattle.std.specs.List.{range_with_len}
 use Rattle.lrc_code.specs.Losses.{bits_set}
-use Rattle.lrc_code.specs.declared.numbers.StripeNo.{StripeNo}
-use Rattle.lrc_topology.specs.declared.NodeInfo.{NodeInfo}
 use Rattle.lrc_topology.specs.declared.seat.Seat.{Seat}
-use Rattle.lrc_homes.specs.declared.home_domains.HomeDomains.{HomeDomains}
-use Rattle.lrc_terms.specs.Levels.{Homes}
-use Rattle.lrc_homes.specs.Domains.{AreDomainsOf}
 
 -- the home of a fragment, if it has one
 abbrev pub home_at : List ℕ → List ℕ → ℕ → ℕ → Option Seat
@@ -23,8 +18,3 @@ pub record AreHomeArrays (nodes slots : List ℕ) (bits : ℕ) : Type 0 where
   pub nodes_long : length nodes ≡ 16
   pub slots_long : length slots ≡ 16
   pub few : bits < 65536
-
--- there is an entry for each stripe number, with the domains of the nodes of the homes
-pub record AreDomainsKept (nodes : List NodeInfo) (homes : StripeNo → Homes) (list : List HomeDomains) : Type 0 where
-  pub long : length list ≡ 4096
-  pub each : (s : StripeNo) (d : HomeDomains) → AreDomainsOf nodes (homes s) (get_or list s.value d)

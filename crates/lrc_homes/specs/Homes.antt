@@ -31,6 +31,6 @@ is_missing online home = option_map_or (λ seat. not (online seat.node)) home tr
 abbrev pub is_to_move : (NodeNo → Bool) → Option Seat → Bool
 is_to_move draining home = option_map_or (λ seat. draining seat.node) home true
 
--- the fragment has its home on the node
+-- (internal) the fragment has its home on the node
 abbrev pub sits_at : NodeNo → List (Option Seat) → Fragment → Bool
 sits_at n homes f = sits_on n (get_or homes f.value None)

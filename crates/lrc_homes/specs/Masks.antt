@@ -27,7 +27,7 @@ pub record AreAll (code : Code) (l : Losses) : Type 0 where
 abbrev pub IsPut : ℕ → Bool → LossMask → LossMask → Type 0
 IsPut f is_in before after = (g : ℕ) → bits_set after.bits g ≡ (if nat_eq g f then is_in else bits_set before.bits g)
 
--- the fragments with a home on the node are in the mask or not, as given, and the others as before
+-- (internal) the fragments with a home on the node are in the mask or not, as given, and the others as before
 abbrev pub IsPutOn : NodeNo → Bool → List (Option Seat) → LossMask → LossMask → Type 0
 IsPutOn n are_in homes before after =
     (g : ℕ) → bits_set after.bits g ≡ (if nat_lt g 16 && sits_on n (get_or homes g None) then are_in else bits_set before.bits g)

@@ -15,7 +15,7 @@ use Rattle.lrc_terms.specs.declared.mode.Mode.TheVariants.{Active, Draining, Gon
 use Rattle.lrc_code.specs.declared.numbers.SessionNo.{SessionNo}
 use Rattle.lrc_images.specs.declared.image.StripeRow.{StripeRow}
 use Rattle.lrc_images.specs.declared.image.LeaseRow.{LeaseRow}
-use Rattle.lrc_image_text.specs.Lines.{Line, Version, Before, Clock, Upgrading, Node, Stripe, Grants, Lease, End, home_word, seat_word, code_word, standing_words, IsSeat, IsHome, IsStripe, IsReadable}
+use Rattle.lrc_image_text.specs.Lines.{Line, Version, Before, Clock, Upgrading, Node, Stripe, Grants, Lease, End, home_word, seat_word, code_word, standing_words, IsSeat, IsHome, IsStripeRow, IsReadable}
 use Rattle.lrc_image_text.specs.Fronts.{end_byte, words_on, line_on, HasLine, HasNone}
 use Rattle.lrc_image_text.proofs.WordLemmas.{same_number, same_seat, seat_on, end_other, no_home-or_seat}
 use Rattle.lrc_image_text.proofs.RowLemmas.{behind_number, behind_words, words_space, some_words, coded, stripe_on, no_standing, standing_space, no_stripe}
@@ -224,10 +224,10 @@ filled Narrow ws size can = record {
 pub record IsStripeInFront (code : Code) (text : List ℕ) : Type 0 where
   pub row : StripeRow
   pub rest : List ℕ
-  pub can : IsStripe row
+  pub can : IsStripeRow row
   pub is : text ≡ line_on (Stripe row) rest
 
-decide_coded : (text : List ℕ) (code : Code) → IsStripeInFront code text ⊎ ((row : StripeRow) (rest : List ℕ) → row.code ≡ code → IsStripe row → text ≢ line_on (Stripe row) rest)
+decide_coded : (text : List ℕ) (code : Code) → IsStripeInFront code text ⊎ ((row : StripeRow) (rest : List ℕ) → row.code ≡ code → IsStripeRow row → text ≢ line_on (Stripe row) rest)
 decide_coded text code = elim (decide_behind text (code_word code ++ codes " ") 32 4096 (omega arith) refl (omega arith)) [
   | inr none ↦ inr (λ r rest same can is.
       let homes = take (fragment_count code) r.homes in

@@ -13,7 +13,7 @@ use Rattle.lrc_images.specs.declared.image.NodeRow.{NodeRow}
 use Rattle.lrc_images.specs.declared.image.StripeRow.{StripeRow}
 use Rattle.lrc_images.specs.declared.image.GrantRow.{GrantRow}
 use Rattle.lrc_images.specs.declared.image.LeaseRow.{LeaseRow}
-use Rattle.lrc_image_text.specs.Lines.{Line, Version, Before, Clock, Upgrading, Node, Stripe, Grants, Lease, End, home_word, code_word, line_text, lines_text, IsReadable, IsStripe}
+use Rattle.lrc_image_text.specs.Lines.{Line, Version, Before, Clock, Upgrading, Node, Stripe, Grants, Lease, End, home_word, code_word, line_text, lines_text, IsReadable, IsStripeRow}
 use Rattle.lrc_image_text.specs.Texts.{section, next_section, may_come, after_lines, IsBadLine}
 use Rattle.lrc_image_text.specs.Fronts.{words_on, line_on}
 use Rattle.lrc_image_text.proofs.WordLemmas.{same_number, same_seat}
@@ -81,7 +81,7 @@ code_told : (code : Code) (rest : List ℕ) → code ≡ code_in (code_word code
 code_told Wide rest = refl
 code_told Narrow rest = refl
 
-same_stripe_lines : (r q : StripeRow) (a b : List ℕ) → IsStripe r → IsStripe q → line_on (Stripe r) a ≡ line_on (Stripe q) b → IsOnce (Stripe r) (Stripe q) a b
+same_stripe_lines : (r q : StripeRow) (a b : List ℕ) → IsStripeRow r → IsStripeRow q → line_on (Stripe r) a ≡ line_on (Stripe q) b → IsOnce (Stripe r) (Stripe q) a b
 same_stripe_lines r q a b can can' is =
     let low = r.stripe.in_range in
     let low' = q.stripe.in_range in

@@ -8,7 +8,7 @@ use Rattle.lrc_code.specs.Codes.{fragment_count}
 use Rattle.lrc_images.specs.declared.image.StripeRow.{StripeRow}
 use Rattle.lrc_terms.specs.declared.mode.Mode.{Mode}
 use Rattle.lrc_terms.specs.declared.mode.Mode.TheVariants.{Active, Draining, Gone}
-use Rattle.lrc_image_text.specs.Lines.{Stripe, standing_words, code_word, home_word, IsStripe}
+use Rattle.lrc_image_text.specs.Lines.{Stripe, standing_words, code_word, home_word, IsStripeRow}
 use Rattle.lrc_image_text.specs.Fronts.{words_on, line_on, HasLine, HasNone}
 use Rattle.lrc_image_text.proofs.WordLemmas.{same_number}
 
@@ -76,7 +76,7 @@ code_cases Wide = inl refl
 code_cases Narrow = inr refl
 
 abbrev pub HasNoStripe : List ℕ → Code → Type 0
-HasNoStripe text code = (row : StripeRow) (rest : List ℕ) → row.code ≡ code → IsStripe row → text ≢ line_on (Stripe row) rest
+HasNoStripe text code = (row : StripeRow) (rest : List ℕ) → row.code ≡ code → IsStripeRow row → text ≢ line_on (Stripe row) rest
 
 -- no stripe of either code
 pub no_stripe : (text : List ℕ) → HasNoStripe text Wide → HasNoStripe text Narrow → HasNone Stripe text

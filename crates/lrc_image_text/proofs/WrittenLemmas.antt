@@ -41,7 +41,7 @@ use Rattle.lrc_images.specs.Rising.{tells_node, tells_grants}
 use Rattle.lrc_images.specs.Rows.{node_no, row_of_node, node_rows, row_of_stripe, stripe_rows, row_of_grants, grant_rows, stripe_leases, lease_rows, IsImageOf}
 use Rattle.lrc_images.proofs.RowLemmas.{rows-member, there-row}
 use Rattle.lrc_images.proofs.StateRowLemmas.{leases_at, row-lease}
-use Rattle.lrc_image_text.specs.Lines.{Version, Before, Clock, Upgrading, Node, Stripe, Grants, Lease, End, IsSeat, IsHome, IsStripe, IsReadable}
+use Rattle.lrc_image_text.specs.Lines.{Version, Before, Clock, Upgrading, Node, Stripe, Grants, Lease, End, IsSeat, IsHome, IsStripeRow, IsReadable}
 use Rattle.lrc_image_text.specs.Texts.{upgrading_lines, lines_of_rows, IsWritten}
 
 -- ---- nodes and seats
@@ -122,7 +122,7 @@ module _ (nodes : List NodeInfo) (store : AreNodes nodes) where
             ∙ ap (λ (n : ℕ). homes_of st.homes s n) (fragment-number (count + k) f within)
             ∙ lacking-none s f (homes_of st.homes s (count + k)) refl (omega (arith, is))
 
-        stripe-readable : IsStripe (row_of_stripe st s)
+        stripe-readable : IsStripeRow (row_of_stripe st s)
         stripe-readable = record {
           all = refl;
           homes = All-map IsHome home_of (fragments Wide) (All-members (λ f. IsHome (home_of f)) (fragments Wide) (λ f here. home-readable s f (home_of f) refl));
@@ -135,7 +135,7 @@ module _ (nodes : List NodeInfo) (store : AreNodes nodes) where
       stripes-readable : All (λ r. IsReadable (Stripe r)) (stripe_rows st)
       stripes-readable = All-members (λ r. IsReadable (Stripe r)) (stripe_rows st) (λ r here.
           let own = there-row stripe_at (row_of_stripe st) (has_stripe st) 4096 r here in
-          subst (λ (r : StripeRow). IsStripe r) own.2 (stripe-readable own.0))
+          subst (λ (r : StripeRow). IsStripeRow r) own.2 (stripe-readable own.0))
 
       -- ---- the rows of leases
 

@@ -101,7 +101,7 @@ IsHome None = Unit {0}
 IsHome (Some seat) = IsSeat seat
 
 -- there are sixteen homes, and those of fragments that the code lacks are none
-pub record IsStripe (r : StripeRow) : Type 0 where
+pub record IsStripeRow (r : StripeRow) : Type 0 where
   pub all : length r.homes ≡ 16
   pub homes : All IsHome r.homes
   pub none : All (λ home. home ≡ None) (drop (fragment_count r.code) r.homes)
@@ -114,7 +114,7 @@ IsReadable (Before n) = n < 2 ^ 64
 IsReadable (Clock n) = n < 4294967296
 IsReadable (Upgrading u) = u.value < 256
 IsReadable (Node r) = (r.node.value < 65536) × (r.mode ≡ Active → r.is_down ≡ true)
-IsReadable (Stripe r) = IsStripe r
+IsReadable (Stripe r) = IsStripeRow r
 IsReadable (Grants r) = (length r.granted ≡ 16) × All (λ n. n < 4294967296) r.granted
 IsReadable (Lease r) = IsSeat r.target × (r.expiry < 4294967296)
 IsReadable End = Unit {0}

@@ -7,7 +7,7 @@ ghost use Rattle.lrc_code.specs.declared.numbers.SessionNo.{SessionNo};
 ghost use Rattle.lrc_topology.specs.declared.seat.Seat.{Seat};
 ghost use Rattle.lrc_terms.specs.declared.mode.Mode.{Mode};
 ghost use Rattle.lrc_images.specs.declared.image.StripeRow.{StripeRow};
-ghost use Rattle.lrc_image_text.specs.Lines.{Stripe, seat_word, standing_words, IsSeat, IsStripe};
+ghost use Rattle.lrc_image_text.specs.Lines.{Stripe, seat_word, standing_words, IsSeat, IsStripeRow};
 ghost use Rattle.lrc_image_text.specs.Fronts.{words_on, line_on, HasLine};
 
 use crate::number::{number_behind, number_to};
@@ -57,9 +57,9 @@ pub(crate) fn standing_to_end(text: &[u8]) -> Option<(Mode, bool, &[u8])>
 /// Reads the line of a stripe of the code at the start of a text.
 pub(crate) fn stripe_line_in_front(text: &[u8], code: Code) -> Option<(StripeRow, &[u8])>
     ensures code { IfSome result (λ r. r.0.code ≡ code) }
-    ensures row { IfSome result (λ r. IsStripe r.0) }
+    ensures row { IfSome result (λ r. IsStripeRow r.0) }
     ensures some { IfSome result (λ r. text.now ≡ line_on (Stripe r.0) r.1.now) }
-    ensures none { IfNone result ((row : StripeRow) (rest : List ℕ) → row.code ≡ code → IsStripe row
+    ensures none { IfNone result ((row : StripeRow) (rest : List ℕ) → row.code ≡ code → IsStripeRow row
         → text.now ≢ line_on (Stripe row) rest) }
 {
     let mut homes = [None; FRAGMENTS];

@@ -2,7 +2,7 @@ ghost use Rattle.std.specs.Prelude.{◌≡◌, ◌<◌, ◌^◌, [], None, IfOk,
 ghost use Rattle.lrc_images.specs.Images.{image_world};
 ghost use Rattle.lrc_images.specs.Causes.{first_cause};
 ghost use Rattle.lrc_images.specs.Cuts.{row_count};
-ghost use Rattle.lrc_restore.specs.Refused.{IsRefusedBy};
+ghost use Rattle.lrc_restore.specs.Refused.{IsRefusedFor};
 ghost use Rattle.lrc_image_text.specs.Texts.{row_line};
 ghost use Rattle.lrc_openings.specs.Begun.{IsBegun};
 ghost use Rattle.lrc_openings.specs.Unopened.{IsUnopened};
@@ -35,7 +35,7 @@ pub fn begin(alloc: Global, nodes: &[u8], text: &[u8]) -> Result<Box<Book>, Open
 fn begin_boxed(alloc: Global, topology: Topology, image: Image) -> Result<Box<Book>, BeginError>
     ensures value { IfOk result (λ b. (b.value.nodes ≡ topology) × (b.value.limit ≡ 1000000) × (b.value.history ≡ []) × (b.value.base ≡ image_world image) × (b.value.before ≡ image.before)) }
     ensures lawful { IsOk result → first_cause topology image ≡ None }
-    ensures refused { IfErr result (IsRefusedBy (first_cause topology image)) }
+    ensures refused { IfErr result (IsRefusedFor (first_cause topology image)) }
 {
     let book = Book::begin(alloc, topology, image)?;
     Ok(Box::new(alloc, book)?)

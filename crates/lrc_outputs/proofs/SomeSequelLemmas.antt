@@ -14,7 +14,7 @@ use Rattle.lrc_image_text.specs.Texts.{image_text}
 use Rattle.lrc_image_text.proofs.TotalLemmas.{judged}
 use Rattle.lrc_book.specs.Books.{BookView, state_of, IsSpent}
 use Rattle.lrc_forecast.specs.declared.outlook.Outage.{Outage}
-use Rattle.lrc_forecast.specs.Forecasts.{is_safe}
+use Rattle.lrc_forecast.specs.Forecasts.{harms_none}
 use Rattle.lrc_groups.specs.declared.named.Named.{Named}
 use Rattle.lrc_groups.specs.Groups.{first_lacking, lacking_line}
 use Rattle.lrc_show.specs.Shown.{view_text, forecast_text}
@@ -84,7 +84,7 @@ some-forecast : (found : Option Named) (outage : Outage) (named : List Named) (n
 some-forecast (Some lacks) outage named nodes base before lists few = (lacking_line lacks, ended.Refused, (refl, refl))
 some-forecast None outage named nodes base before lists few =
     let (b, from) = some-book nodes base before lists few in
-    (forecast_text (forecast_of outage named b), safety_status (is_safe (forecast_of outage named b)), (b, from, (refl, refl)))
+    (forecast_text (forecast_of outage named b), safety_status (harms_none (forecast_of outage named b)), (b, from, (refl, refl)))
 
 some-reached : (goal : Goal) (nodes : List NodeInfo) (base : World) (before : ℕ) (lists : List (List Command)) → length lists ≤ 8 → (text : List ℕ) × (status : Status) × IsReached goal nodes base before lists text status
 some-reached to.Replies nodes base before lists few = let one = some_play nodes base before lists few in (one.0, ended.Done, (one.1, refl))

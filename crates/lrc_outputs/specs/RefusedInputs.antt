@@ -26,7 +26,7 @@ bad_image_text line = refusal_line (refusal.ImageLine line)
 abbrev pub refused_row_text : Option UpgradeNo → ℕ × RowCause → List ℕ
 refused_row_text upgrading found = refusal_line (refusal.Row (row_line upgrading found.0 found.1) found.1)
 
--- how a call ends that refuses its input
+-- (internal) how a call ends that refuses its input
 abbrev pub refusal_status : InputRefusal → Status
 refusal_status refusal.TooLong = ended.Refused
 refusal_status refusal.TooManyScripts = ended.Refused

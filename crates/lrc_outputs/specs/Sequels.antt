@@ -15,7 +15,7 @@ use Rattle.lrc_image_text.specs.Texts.{image_text, IsWritten, IsBadLine}
 use Rattle.lrc_book.specs.Books.{BookView, state_of, IsSpent, IsImageOfBook}
 use Rattle.lrc_forecast.specs.declared.outlook.Outage.{Outage}
 use Rattle.lrc_forecast.specs.declared.outlook.Outlook.{Outlook}
-use Rattle.lrc_forecast.specs.Forecasts.{forecast, is_safe}
+use Rattle.lrc_forecast.specs.Forecasts.{forecast, harms_none}
 use Rattle.lrc_groups.specs.declared.named.Named.{Named}
 use Rattle.lrc_groups.specs.Groups.{numbers_in, first_lacking, lacking_line}
 use Rattle.lrc_show.specs.declared.view.View.{View}
@@ -142,7 +142,7 @@ forecast_of outage named b = forecast b.nodes (state_of b) outage (numbers_in b.
 -- the table of that, and whether it is safe
 abbrev pub IsForecast : Outage → List Named → BookView → List ℕ → Status → Type 0
 IsForecast outage named b text status =
-    let rows = forecast_of outage named b in ((text ≡ forecast_text rows) × (status ≡ safety_status (is_safe rows)))
+    let rows = forecast_of outage named b in ((text ≡ forecast_text rows) × (status ≡ safety_status (harms_none rows)))
 
 -- the book began here, and in its history the sessions made the commands of their scripts, in order, and it has no other entries
 pub record IsMadeFrom (nodes : List NodeInfo) (base : World) (before : ℕ) (scripts : List (List Command)) (b : BookView) : Type 0 where

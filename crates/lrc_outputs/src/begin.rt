@@ -1,7 +1,7 @@
 //! The checks of a sequel, which are made before its first command, and the book that begins where it says.
 
 ghost use Rattle.std.specs.Prelude.{◌≡◌, ◌≤◌, nat_eq, count_by, take, drop, length, None, Ok, IfOk, IfErr, IsOk};
-ghost use Rattle.lrc_restore.specs.Refused.{IsRefusedBy};
+ghost use Rattle.lrc_restore.specs.Refused.{IsRefusedFor};
 ghost use Rattle.lrc_outputs.specs.Limits.{sequel_limit};
 ghost use Rattle.lrc_script.specs.Scripts.{lines_of};
 ghost use Rattle.lrc_script.specs.Cuts.{IsCut};
@@ -184,7 +184,7 @@ fn new_book(
 ) -> Result<Box<Book>, BeginError>
     ensures fresh { IfOk result (λ b. IsFresh topology (start_in image) b.value) }
     ensures lawful { IsOk result → (start_in image).cause_over topology ≡ None }
-    ensures refused { IfErr result (IsRefusedBy ((start_in image).cause_over topology)) }
+    ensures refused { IfErr result (IsRefusedFor ((start_in image).cause_over topology)) }
 {
     let book = match image {
         Some(image) => Book::begin(alloc, topology, image)?,

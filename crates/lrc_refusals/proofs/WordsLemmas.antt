@@ -18,7 +18,7 @@ use Rattle.lrc_groups.specs.declared.named.Named.{Named}
 use Rattle.lrc_groups.specs.declared.named.Named.TheVariants as named
 use Rattle.lrc_refusals.specs.declared.refusal.InputRefusal.{InputRefusal}
 use Rattle.lrc_refusals.specs.declared.refusal.InputRefusal.TheVariants as refusal
-use Rattle.lrc_refusals.specs.Refusals.{cause_number, refusal_line, topology_words, line_words, row_words, refusal_words}
+use Rattle.lrc_refusals.specs.Refusals.{cause_number, refusal_line, topology_words, line_words, row_words, input_refusal_words}
 
 -- ---- what stands behind a number
 
@@ -97,19 +97,19 @@ high_words digit =
 
 abbrev image_words_at : List ℕ → List ℕ
 image_words_at behind =
-    if nat_eq (at behind 0) 10 then refusal_words (refusal.ImageLine 0)
-    else (if nat_eq (at behind 0) 102 then refusal_words refusal.FullImage
+    if nat_eq (at behind 0) 10 then input_refusal_words (refusal.ImageLine 0)
+    else (if nat_eq (at behind 0) 102 then input_refusal_words refusal.FullImage
     else (if nat_eq (at behind 8) 10 then low_words (at behind 7) else high_words (at behind 8)))
 
 abbrev pub words_at : List ℕ → List ℕ
 words_at line =
-    if nat_eq (at line 0) 98 then (if nat_eq (at line 7) 49 then refusal_words refusal.TooLong else refusal_words refusal.TooManyScripts)
+    if nat_eq (at line 0) 98 then (if nat_eq (at line 7) 49 then input_refusal_words refusal.TooLong else input_refusal_words refusal.TooManyScripts)
     else (if nat_eq (at line 0) 116 then topology_words_at (at line 9)
     else (if nat_eq (at line 0) 108 then line_words_at (at (past_digits (drop 5 line)) 7)
     else (if nat_eq (at line 0) 105 then image_words_at (past_digits (drop 6 line))
-    else (if nat_eq (at line 0) 110 then refusal_words (refusal.Lacking (named.Node (record { value = 0 })))
-    else (if nat_eq (at line 0) 102 then refusal_words (refusal.Lacking (named.Fault (record { value = 0 })))
-    else (if nat_eq (at line 0) 117 then refusal_words (refusal.Lacking (named.Upgrade (record { value = 0 }))) else topology_words topology.OutOfMemory))))))
+    else (if nat_eq (at line 0) 110 then input_refusal_words (refusal.Lacking (named.Node (record { value = 0 })))
+    else (if nat_eq (at line 0) 102 then input_refusal_words (refusal.Lacking (named.Fault (record { value = 0 })))
+    else (if nat_eq (at line 0) 117 then input_refusal_words (refusal.Lacking (named.Upgrade (record { value = 0 }))) else topology_words topology.OutOfMemory))))))
 
 two-digits : (n : ℕ) → 10 ≤ n → n < 20 → decimal n ≡ 49 ∷ (48 + n % 10) ∷ []
 two-digits n low high =
@@ -152,7 +152,7 @@ topology-told (topology.DoubleNode _) = refl
 topology-told topology.TooMany = refl
 topology-told topology.OutOfMemory = refl
 
-lacking-told : (n : Named) → words_at (refusal_line (refusal.Lacking n)) ≡ refusal_words (refusal.Lacking n)
+lacking-told : (n : Named) → words_at (refusal_line (refusal.Lacking n)) ≡ input_refusal_words (refusal.Lacking n)
 lacking-told (named.Node _) = refl
 lacking-told (named.Fault _) = refl
 lacking-told (named.Upgrade _) = refl
@@ -163,11 +163,11 @@ at-line rest = refl
 at-image : (rest : List ℕ) → words_at (codes "image " ++ rest) ≡ image_words_at (past_digits rest)
 at-image rest = refl
 
-at-end : image_words_at (past_digits (codes "\n")) ≡ refusal_words (refusal.ImageLine 0)
+at-end : image_words_at (past_digits (codes "\n")) ≡ input_refusal_words (refusal.ImageLine 0)
 unfolding past_digits
 at-end = refl
 
-at-full : image_words_at (past_digits (codes "full\n")) ≡ refusal_words refusal.FullImage
+at-full : image_words_at (past_digits (codes "full\n")) ≡ input_refusal_words refusal.FullImage
 unfolding past_digits
 at-full = refl
 
@@ -177,7 +177,7 @@ three a b c = simp append_assoc
 five : (a b c d e : List ℕ) → a ++ b ++ c ++ d ++ e ≡ a ++ (b ++ (c ++ d ++ e))
 five a b c d e = simp append_assoc
 
-pub words-told : (r : InputRefusal) → words_at (refusal_line r) ≡ refusal_words r
+pub words-told : (r : InputRefusal) → words_at (refusal_line r) ≡ input_refusal_words r
 words-told refusal.TooLong = refl
 words-told refusal.TooManyScripts = refl
 words-told (refusal.Topology e) = topology-told e

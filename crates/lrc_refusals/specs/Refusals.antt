@@ -82,16 +82,16 @@ row_words row.NeverGranted = codes "no lease of the fragment was granted"
 row_words row.WrongExpiry = codes "the lease ended already, or ends later than three ticks after the clock"
 
 -- why an input is refused
-abbrev pub refusal_words : InputRefusal → List ℕ
-refusal_words refusal.TooLong = codes "the input has too many bytes"
-refusal_words refusal.TooManyScripts = codes "the input has too many scripts"
-refusal_words (refusal.Topology error) = topology_words error
-refusal_words (refusal.Line _ cause) = line_words cause
-refusal_words (refusal.ImageLine _) = codes "this line can't stand here in an image"
-refusal_words (refusal.Row _ cause) = row_words cause
-refusal_words refusal.FullImage = codes "a number of the state is at its end"
-refusal_words (refusal.Lacking named) = lacking_words named
+abbrev pub input_refusal_words : InputRefusal → List ℕ
+input_refusal_words refusal.TooLong = codes "the input has too many bytes"
+input_refusal_words refusal.TooManyScripts = codes "the input has too many scripts"
+input_refusal_words (refusal.Topology error) = topology_words error
+input_refusal_words (refusal.Line _ cause) = line_words cause
+input_refusal_words (refusal.ImageLine _) = codes "this line can't stand here in an image"
+input_refusal_words (refusal.Row _ cause) = row_words cause
+input_refusal_words refusal.FullImage = codes "a number of the state is at its end"
+input_refusal_words (refusal.Lacking named) = lacking_words named
 
 -- the words and the line
-abbrev pub refusal_text : InputRefusal → List ℕ
-refusal_text r = codes "lrcman: " ++ refusal_words r ++ codes ": " ++ refusal_line r
+abbrev pub input_refusal_text : InputRefusal → List ℕ
+input_refusal_text r = codes "lrcman: " ++ input_refusal_words r ++ codes ": " ++ refusal_line r

@@ -2,9 +2,9 @@
 
 ghost use Rattle.std.specs.Prelude.{◌≡◌};
 ghost use Rattle.lrc_refusals.specs.declared.refusal.InputRefusal.{InputRefusal};
-ghost use Rattle.lrc_refusals.specs.Refusals.{refusal_line, refusal_words};
+ghost use Rattle.lrc_refusals.specs.Refusals.{refusal_line, input_refusal_words};
 
 /// A line has one text of words: refusals with the same line have the same words.
 pub fn a_line_has_its_words()
-    ensures { (one other : InputRefusal) → refusal_line one ≡ refusal_line other → refusal_words one ≡ refusal_words other }
+    ensures { (one other : InputRefusal) → refusal_line one ≡ refusal_line other → input_refusal_words one ≡ input_refusal_words other }
 {}

@@ -1,5 +1,5 @@
 ghost use Rattle.std.specs.Prelude.{◌≡◌, ◌++◌, string_bytes, OnOk};
-ghost use Rattle.lrc_refusals.specs.Refusals.{refusal_line, refusal_words, refusal_text};
+ghost use Rattle.lrc_refusals.specs.Refusals.{refusal_line, input_refusal_words, input_refusal_text};
 
 use crate::lines::{push_bad_line, push_image_line, push_row, push_topology};
 use crate::words::{line_words, row_words, topology_words};
@@ -53,7 +53,7 @@ impl InputRefusal {
 
     /// Returns why, in words.
     pub fn words(self) -> &'static str
-        ensures { result.now ≡ refusal_words self }
+        ensures { result.now ≡ input_refusal_words self }
     {
         match self {
             InputRefusal::TooLong => "the input has too many bytes",
@@ -73,7 +73,7 @@ impl InputRefusal {
     ///
     /// Only for want of memory; then a beginning may have been added.
     pub fn push_text(self, out: &mut String) -> Result<(), AllocError>
-        ensures { OnOk result (string_bytes out.new ≡ string_bytes out.old ++ refusal_text self) }
+        ensures { OnOk result (string_bytes out.new ≡ string_bytes out.old ++ input_refusal_text self) }
     {
         let words = self.words();
         write!(out, "lrcman: {words}: ")?;

@@ -9,7 +9,7 @@ use Rattle.lrc_images.specs.Causes.{cause_if, first_cause}
 use Rattle.lrc_restore.specs.declared.error.BeginError.{BeginError}
 use Rattle.lrc_restore.specs.declared.error.BeginError.TheVariants.{Refused, OutOfMemory}
 use Rattle.lrc_restore.specs.Stages.{head_refusal, nodes_refusal, stripes_refusal, grants_refusal, leases_refusal}
-use Rattle.lrc_restore.specs.Refused.{IsRefusedBy}
+use Rattle.lrc_restore.specs.Refused.{IsRefusedFor}
 
 -- ---- the tests of a row
 
@@ -28,11 +28,11 @@ abbrev Found : Type 0
 Found = Option (ℕ × Cause)
 
 -- the first of two is that of the first one, if it has one, and else that of the second
-pub first-refused : (first later : Found) (e : BeginError) → IsRefusedBy first e → IsRefusedBy (option_or first later) e
+pub first-refused : (first later : Found) (e : BeginError) → IsRefusedFor first e → IsRefusedFor (option_or first later) e
 first-refused first later OutOfMemory refused = tt
 first-refused first later (Refused position cause) refused = ap (λ (o : Found). option_or o later) refused
 
-pub later-refused : (first later : Found) (e : BeginError) → first ≡ None → IsRefusedBy later e → IsRefusedBy (option_or first later) e
+pub later-refused : (first later : Found) (e : BeginError) → first ≡ None → IsRefusedFor later e → IsRefusedFor (option_or first later) e
 later-refused first later OutOfMemory none refused = tt
 later-refused first later (Refused position cause) none refused = ap (λ (o : Found). option_or o later) none ∙ refused
 
@@ -50,24 +50,24 @@ module _ (nodes : List NodeInfo) (i : Image) where
   abbrev from_nodes : Found
   from_nodes = option_or (nodes_refusal nodes i) from_stripes
 
-  pub head-first : (e : BeginError) → IsRefusedBy (head_refusal nodes i) e → IsRefusedBy (first_cause nodes i) e
+  pub head-first : (e : BeginError) → IsRefusedFor (head_refusal nodes i) e → IsRefusedFor (first_cause nodes i) e
   unfolding first_cause
   head-first e refused = first-refused (head_refusal nodes i) from_nodes e refused
 
   module _ (head : head_refusal nodes i ≡ None) where
-    pub nodes-first : (e : BeginError) → IsRefusedBy (nodes_refusal nodes i) e → IsRefusedBy (first_cause nodes i) e
+    pub nodes-first : (e : BeginError) → IsRefusedFor (nodes_refusal nodes i) e → IsRefusedFor (first_cause nodes i) e
     unfolding first_cause
     nodes-first e refused = later-refused (head_refusal nodes i) from_nodes e head (first-refused (nodes_refusal nodes i) from_stripes e refused)
 
     module _ (node_rows : nodes_refusal nodes i ≡ None) where
-      pub stripes-first : (e : BeginError) → IsRefusedBy (stripes_refusal nodes i) e → IsRefusedBy (first_cause nodes i) e
+      pub stripes-first : (e : BeginError) → IsRefusedFor (stripes_refusal nodes i) e → IsRefusedFor (first_cause nodes i) e
       unfolding first_cause
       stripes-first e refused =
           later-refused (head_refusal nodes i) from_nodes e head (later-refused (nodes_refusal nodes i) from_stripes e node_rows
           (first-refused (stripes_refusal nodes i) from_grants e refused))
 
       module _ (stripe_rows : stripes_refusal nodes i ≡ None) where
-        pub grants-first : (e : BeginError) → IsRefusedBy (grants_refusal i) e → IsRefusedBy (first_cause nodes i) e
+        pub grants-first : (e : BeginError) → IsRefusedFor (grants_refusal i) e → IsRefusedFor (first_cause nodes i) e
         unfolding first_cause
         grants-first e refused =
             later-refused (head_refusal nodes i) from_nodes e head (later-refused (nodes_refusal nodes i) from_stripes e node_rows
@@ -81,7 +81,7 @@ module _ (nodes : List NodeInfo) (i : Image) where
               ap (λ (o : Found). option_or o from_nodes) head ∙ ap (λ (o : Found). option_or o from_stripes) node_rows
               ∙ ap (λ (o : Found). option_or o from_grants) stripe_rows ∙ ap (λ (o : Found). option_or o (leases_refusal nodes i)) grant_rows
 
-          pub leases-first : (e : BeginError) → IsRefusedBy (leases_refusal nodes i) e → IsRefusedBy (first_cause nodes i) e
+          pub leases-first : (e : BeginError) → IsRefusedFor (leases_refusal nodes i) e → IsRefusedFor (first_cause nodes i) e
           leases-first OutOfMemory refused = tt
           leases-first (Refused position cause) refused = left ∙ refused
 

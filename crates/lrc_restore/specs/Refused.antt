@@ -5,6 +5,6 @@ use Rattle.lrc_restore.specs.declared.error.BeginError.{BeginError}
 use Rattle.lrc_restore.specs.declared.error.BeginError.TheVariants.{Refused, OutOfMemory}
 
 -- this row and this cause are the first; of want of memory nothing is said
-abbrev pub IsRefusedBy : Option (ℕ × Cause) → BeginError → Type 0
-IsRefusedBy first OutOfMemory = Unit {0}
-IsRefusedBy first (Refused position cause) = first ≡ Some (position, cause)
+abbrev pub IsRefusedFor : Option (ℕ × Cause) → BeginError → Type 0
+IsRefusedFor first OutOfMemory = Unit {0}
+IsRefusedFor first (Refused position cause) = first ≡ Some (position, cause)

@@ -4,7 +4,7 @@ ghost use Rattle.lrc_rules.specs.States.{opening};
 ghost use Rattle.lrc_images.specs.Images.{earlier, image_state};
 ghost use Rattle.lrc_images.specs.Causes.{first_cause};
 ghost use Rattle.lrc_store.specs.Stores.{IsOf, AreGrantsOf};
-ghost use Rattle.lrc_restore.specs.Refused.{IsRefusedBy};
+ghost use Rattle.lrc_restore.specs.Refused.{IsRefusedFor};
 
 use crate::BeginError;
 use crate::error::RefusedRow;
@@ -33,7 +33,7 @@ pub fn restore(
     ensures store { IfOk result (λ r. IsOf (image_state image.now) r.0.value) }
     ensures grants { IfOk result (λ r. AreGrantsOf (earlier image.now.grants.items) r.1) }
     ensures lawful { IsOk result → first_cause topology image.now ≡ None }
-    ensures refused { IfErr result (IsRefusedBy (first_cause topology image.now)) }
+    ensures refused { IfErr result (IsRefusedFor (first_cause topology image.now)) }
 {
     let store = Store::new(alloc, topology)?;
     let mut store = Box::new(alloc, store)?;

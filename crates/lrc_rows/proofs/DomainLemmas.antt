@@ -13,8 +13,7 @@ use Rattle.lrc_homes.specs.declared.home_domains.HomeDomains.{HomeDomains}
 use Rattle.lrc_rows.specs.declared.row.Row.{Row}
 use Rattle.lrc_terms.specs.Levels.{Homes}
 use Rattle.lrc_rows.specs.Listed.{row_homes}
-use Rattle.lrc_homes.specs.Domains.{AreDomainsOf}
-use Rattle.lrc_homes.specs.HomeArrays.{AreDomainsKept}
+use Rattle.lrc_homes.specs.Domains.{AreDomainsOf, AreDomainsKept}
 
 -- ---- one stripe
 

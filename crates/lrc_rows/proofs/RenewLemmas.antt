@@ -23,7 +23,7 @@ use Rattle.lrc_nodes.specs.States.{infos_in, state_at, online_in, draining_in, w
 use Rattle.lrc_nodes.proofs.SetLemmas.{AreSameNodes, same-state, online-state, draining-state, same-upgrading, draining-upgrading, online-upgraded}
 use Rattle.lrc_ranks.specs.Sets.{has}
 use Rattle.lrc_homes.specs.declared.home_domains.HomeDomains.{HomeDomains}
-use Rattle.lrc_homes.specs.HomeArrays.{AreDomainsKept}
+use Rattle.lrc_homes.specs.Domains.{AreDomainsKept}
 use Rattle.lrc_rows.specs.declared.row.Row.{Row}
 use Rattle.lrc_terms.specs.Levels.{Homes}
 use Rattle.lrc_rows.specs.NodeStates.{NodeLists, NodeStates, states_in, is_in_domain, AreAlikeOutside}

@@ -64,12 +64,12 @@ pub record AreRenewed (set : StripeNo → Bool) (R : Row → Row → Type 0) (be
   pub listed : (s : StripeNo) → set s ≡ true → IsRenewed R (before s) (after s)
   pub others : (s : StripeNo) → set s ≡ false → after s ≡ before s
 
--- the row with these losses
+-- (internal) the row with these losses
 pub record IsWithLosses (given : Losses) (before after : Row) : Type 0 where
   pub homes : after.homes ≡ before.homes
   pub losses : after.losses ≡ given
 
--- the row where these fragments are missing or not, as given
+-- (internal) the row where these fragments are missing or not, as given
 pub record IsWithMissing (fragments : LossMask) (are_missing : Bool) (before after : Row) : Type 0 where
   pub homes : after.homes ≡ before.homes
   pub code : after.losses.code ≡ before.losses.code
@@ -82,7 +82,7 @@ pub record IsRehomed (f : ℕ) (home : Option Seat) (given : Losses) (before aft
   pub homes : after.homes ≡ set before.homes f home
   pub losses : after.losses ≡ given
 
--- the row where the fragments with a home on the node are missing or not, as given, if it has work
+-- (internal) the row where the fragments with a home on the node are missing or not, as given, if it has work
 pub record IsMissingOn (n : NodeNo) (are_missing : Bool) (before after : Row) : Type 0 where
   pub homes : after.homes ≡ before.homes
   pub code : after.losses.code ≡ before.losses.code
@@ -90,7 +90,7 @@ pub record IsMissingOn (n : NodeNo) (are_missing : Bool) (before after : Row) : 
   pub missing : before.losses.needs.bits ≢ 0 → IsPutOn n are_missing before.homes before.losses.missing after.losses.missing
   pub needs : after.losses.needs ≡ before.losses.needs
 
--- the row with such losses
+-- (internal) the row with such losses
 pub record IsFollowing (states : NodeStates) (u : UpgradeNo) (before after : Row) : Type 0 where
   pub homes : after.homes ≡ before.homes
   pub losses : AreFollowing states u before.homes before.losses after.losses
@@ -99,7 +99,7 @@ pub record IsFollowing (states : NodeStates) (u : UpgradeNo) (before after : Row
 abbrev pub WereKept : NodeStates → UpgradeNo → (StripeNo → Option Row) → Type 0
 WereKept states u rows = (online : NodeNo → Bool) × AreAlikeOutside states.nodes u online states.online × IsKept (record states { online = online }) rows
 
--- the row where the fragments with a home on the node need a lease or not, as given
+-- (internal) the row where the fragments with a home on the node need a lease or not, as given
 pub record IsToMoveOn (online : NodeNo → Bool) (n : NodeNo) (are_to_move : Bool) (before after : Row) : Type 0 where
   pub homes : after.homes ≡ before.homes
   pub code : after.losses.code ≡ before.losses.code
@@ -121,7 +121,7 @@ needs_of o = option_map_or (λ r. r.losses.needs.bits) o 0
 abbrev pub row_has_work : Option Row → Bool
 row_has_work o = option_map_or (λ r. not (nat_eq r.losses.needs.bits 0)) o false
 
--- The lists have an entry for each stripe number. The fragments that need a lease are those of the rows, the set has the stripes with a row, and the queue has the stripes with work at their ranks.
+-- (internal) The lists have an entry for each stripe number. The fragments that need a lease are those of the rows, the set has the stripes with a row, and the queue has the stripes with work at their ranks.
 pub record AreQueued (list : List (Option Row)) (needs : List ℕ) (there : List Bool) (work : List (List Bool)) : Type 0 where
   pub long : length list ≡ 4096
   pub needs_long : length needs ≡ 4096
@@ -136,6 +136,6 @@ abbrev pub level_in : Option Row → Level
 level_in None = Whole
 level_in (Some r) = level_of r.losses
 
--- the stripes with the levels of their rows
+-- (internal) the stripes with the levels of their rows
 abbrev pub levels_of : (StripeNo → Option Row) → List StripeNo → List StripeLevel
 levels_of rows stripes = map (λ s. (s, level_in (rows s))) stripes

@@ -24,7 +24,7 @@ has_node nodes n = is_some (node_at nodes n)
 abbrev pub is_in_domain : List NodeInfo → UpgradeNo → NodeNo → Bool
 is_in_domain nodes u n = option_map_or (λ m. same_upgrade m.upgrade u) (node_at nodes n) false
 
--- the node of this number is one of these, and outside the upgrade domain
+-- (internal) the node of this number is one of these, and outside the upgrade domain
 abbrev pub is_outside : List NodeInfo → UpgradeNo → NodeNo → Bool
 is_outside nodes u n = option_map_or (λ m. not (same_upgrade m.upgrade u)) (node_at nodes n) false
 
@@ -60,12 +60,12 @@ states_in t = record {
   on = λ n. has (get_or t.stripes (node_position t.list n) []);
 }
 
--- there is a set for each node, and the numbers of the nodes differ
+-- (internal) there is a set for each node, and the numbers of the nodes differ
 pub record AreNodes (states : List NodeState) (sets : List (List Bool)) : Type 0 where
   pub long : length sets ≡ length states
   pub apart : AllPairs (λ m n. m.value ≢ n.value) (numbers_in states)
 
--- the result of a look-up: the position of the node, or none if no node has the number
+-- (internal) the result of a look-up: the position of the node, or none if no node has the number
 abbrev pub IsPositionOf : NodeLists → NodeNo → Option ℕ → Type 0
 IsPositionOf t n None = (length t.list ≤ node_position t.list n) × (length t.stripes ≡ length t.list)
 IsPositionOf t n (Some p) = (p ≡ node_position t.list n) × (p < length t.list) × (length t.stripes ≡ length t.list)
@@ -87,7 +87,7 @@ pub record AreOffline (states : NodeStates) (numbers : List NodeNo) : Type 0 whe
   pub offline : (n : NodeNo) → list_any (same_node n) numbers ≡ true → states.online n ≡ false
   pub all : (n : NodeNo) (s : StripeNo) → states.online n ≡ false → states.on n s ≡ true → list_any (same_node n) numbers ≡ true
 
--- The losses of a row with these homes, whose mask of the missing fragments is exact now, if it was so before the nodes of a
+-- (internal) The losses of a row with these homes, whose mask of the missing fragments is exact now, if it was so before the nodes of a
 -- domain came online or went offline.
 pub record AreFollowing (states : NodeStates) (u : UpgradeNo) (homes : List (Option Seat)) (before after : Losses) : Type 0 where
   pub code : after.code ≡ before.code

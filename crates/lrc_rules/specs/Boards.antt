@@ -29,10 +29,6 @@ levels_by count shown = map (λ k. shown (stripe_at k)) (range_with_len 0 count)
 unfoldable pub levels_of : List NodeInfo → State → Levels
 levels_of nodes st = levels_by 4096 (level_shown nodes st)
 
--- the same after a history
-abbrev pub levels_after : List NodeInfo → List Entry → Levels
-levels_after nodes history = levels_of nodes (state_after nodes history)
-
 -- the level of a stripe
 abbrev pub level_in : Levels → StripeNo → Option Level
 level_in levels s = get_or levels s.value None
@@ -55,7 +51,7 @@ loads_by nodes load = map (λ m. (m.number, load m.number)) nodes
 abbrev pub loads_of : List NodeInfo → State → Loads
 loads_of nodes st = loads_by nodes (load st)
 
--- the same after a history
+-- (internal) the same after a history
 abbrev pub loads_after : List NodeInfo → List Entry → Loads
 loads_after nodes history = loads_of nodes (state_after nodes history)
 

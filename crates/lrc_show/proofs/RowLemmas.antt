@@ -24,7 +24,7 @@ use Rattle.lrc_terms.specs.Levels.{Homes, homes_of, homeless_in}
 use Rattle.lrc_rules.specs.States.{State, has_stripe, code_of, missing, code_shown, homes_shown, level_shown, missing_shown}
 use Rattle.lrc_rules.specs.Repairs.{is_safe}
 use Rattle.lrc_text.specs.Tables.{level_text, margin_field}
-use Rattle.lrc_show.specs.Shown.{hex_field, fragments_field, members_of, home_field, home_fields, stripe_line, stripe_row}
+use Rattle.lrc_show.specs.Shown.{hex_field, fragments_field, members_of, home_field, home_fields, stripe_line, shown_stripe}
 use Rattle.lrc_book.specs.Looks.{stripes_of}
 use Rattle.lrc_show.proofs.FieldLemmas.{members-all}
 use Rattle.lrc_book.proofs.StripeLemmas.{stripes_below, code-told, level-told, mask-told, stripes-all}
@@ -128,7 +128,7 @@ module _ (nodes : List NodeInfo) (st : State) (s : StripeNo) where
   pub stripe-told : (code : Code) (l : Level) (mask : LossMask) (homes : List (Option Seat)) (old new : List ℕ) → code_shown st s ≡ Some code
       → Some l ≡ level_shown nodes st s → Some mask ≡ missing_shown nodes st s → Some homes ≡ homes_shown st s
       → ((m : FragmentSet) (of : Homes) → mask.bits ≡ bits_of code m → homes ≡ map (λ (f : Fragment). of f.value) (fragments Wide) → new ≡ old ++ stripe_line s code l m of)
-      → new ≡ old ++ (if has_stripe st s then stripe_row nodes st s else [])
+      → new ≡ old ++ (if has_stripe st s then shown_stripe nodes st s else [])
   stripe-told code l mask homes old new coded levelled masked homed row =
       let own = some-if (has_stripe st s) (code_of st s) code coded in
       let lost = missing nodes st s in
@@ -138,7 +138,7 @@ module _ (nodes : List NodeInfo) (st : State) (s : StripeNo) where
       let all : homes_shown st s ≡ Some (map (λ (f : Fragment). at f.value) (fragments Wide)) = rw (own.0) refl in
       row lost at bits (same_Some _ _ (homed ∙ all)) ∙ ap (λ (k : Code). old ++ stripe_line s k l lost at) (sym own.1)
       ∙ ap (λ (k : Level). old ++ stripe_line s (code_of st s) k lost at) (same_Some _ _ (levelled ∙ level-told nodes st s own.0))
-      ∙ ap (λ (b : Bool). old ++ (if b then stripe_row nodes st s else [])) (sym own.0)
+      ∙ ap (λ (b : Bool). old ++ (if b then shown_stripe nodes st s else [])) (sym own.0)
 
   -- whether the missing fragments are recoverable
   pub safe-told : (code : Code) (mask : LossMask) → has_stripe st s ≡ true → Some code ≡ code_shown st s → Some mask ≡ missing_shown nodes st s
@@ -150,16 +150,16 @@ module _ (nodes : List NodeInfo) (st : State) (s : StripeNo) where
 
 -- ---- the table
 
-module _ (nodes : List NodeInfo) (st : State) (n : ℕ) (start now : List ℕ) (so_far : now ≡ start ++ flat_map (stripe_row nodes st) (stripes_below st n)) where
-  last : (b : Bool) (s : StripeNo) → flat_map (stripe_row nodes st) (cond b (s ∷ []) []) ≡ (if b then stripe_row nodes st s else [])
-  last true s = append-nil (stripe_row nodes st s)
+module _ (nodes : List NodeInfo) (st : State) (n : ℕ) (start now : List ℕ) (so_far : now ≡ start ++ flat_map (shown_stripe nodes st) (stripes_below st n)) where
+  last : (b : Bool) (s : StripeNo) → flat_map (shown_stripe nodes st) (cond b (s ∷ []) []) ≡ (if b then shown_stripe nodes st s else [])
+  last true s = append-nil (shown_stripe nodes st s)
   last false s = refl
 
   more : (s : StripeNo) → stripe_at n ≡ s
-      → flat_map (stripe_row nodes st) (stripes_below st (n + 1)) ≡ flat_map (stripe_row nodes st) (stripes_below st n) ++ (if has_stripe st s then stripe_row nodes st s else [])
+      → flat_map (shown_stripe nodes st) (stripes_below st (n + 1)) ≡ flat_map (shown_stripe nodes st) (stripes_below st n) ++ (if has_stripe st s then shown_stripe nodes st s else [])
   unfolding stripes_below
   more s is =
-      let row = stripe_row nodes st in
+      let row = shown_stripe nodes st in
       let before = filter (has_stripe st) (map stripe_at (range_with_len 0 n)) in
       ap (flat_map row) (filter_of_map_range_with_len_more (has_stripe st) stripe_at 0 n n (zero-add n))
       ∙ flat_map-append row before (cond (has_stripe st (stripe_at n)) (stripe_at n ∷ []) [])
@@ -167,14 +167,14 @@ module _ (nodes : List NodeInfo) (st : State) (n : ℕ) (start now : List ℕ) (
       ∙ ap (λ t. flat_map row before ++ t) (last (has_stripe st s) s)
 
   -- the row of one more stripe, if there is one
-  pub rows-more : (s : StripeNo) (new : List ℕ) → stripe_at n ≡ s → new ≡ now ++ (if has_stripe st s then stripe_row nodes st s else [])
-      → new ≡ start ++ flat_map (stripe_row nodes st) (stripes_below st (n + 1))
+  pub rows-more : (s : StripeNo) (new : List ℕ) → stripe_at n ≡ s → new ≡ now ++ (if has_stripe st s then shown_stripe nodes st s else [])
+      → new ≡ start ++ flat_map (shown_stripe nodes st) (stripes_below st (n + 1))
   rows-more s new is next =
-      let own = if has_stripe st s then stripe_row nodes st s else [] in
-      next ∙ ap (λ t. t ++ own) so_far ∙ append_assoc start (flat_map (stripe_row nodes st) (stripes_below st n)) own ∙ ap (λ t. start ++ t) (sym (more s is))
+      let own = if has_stripe st s then shown_stripe nodes st s else [] in
+      next ∙ ap (λ t. t ++ own) so_far ∙ append_assoc start (flat_map (shown_stripe nodes st) (stripes_below st n)) own ∙ ap (λ t. start ++ t) (sym (more s is))
 
   -- all rows, below the heads of the columns
-  pub rows-all : (old heads : List ℕ) → n ≡ 4096 → start ≡ old ++ heads → now ≡ old ++ (heads ++ flat_map (stripe_row nodes st) (stripes_of st))
+  pub rows-all : (old heads : List ℕ) → n ≡ 4096 → start ≡ old ++ heads → now ≡ old ++ (heads ++ flat_map (shown_stripe nodes st) (stripes_of st))
   rows-all old heads end begun =
-      let rows = flat_map (stripe_row nodes st) (stripes_of st) in
-      so_far ∙ ap (λ (xs : List StripeNo). start ++ flat_map (stripe_row nodes st) xs) (stripes-all st n end) ∙ ap (λ t. t ++ rows) begun ∙ append_assoc old heads rows
+      let rows = flat_map (shown_stripe nodes st) (stripes_of st) in
+      so_far ∙ ap (λ (xs : List StripeNo). start ++ flat_map (shown_stripe nodes st) xs) (stripes-all st n end) ∙ ap (λ t. t ++ rows) begun ∙ append_assoc old heads rows

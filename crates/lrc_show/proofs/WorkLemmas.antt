@@ -16,7 +16,7 @@ use Rattle.lrc_rules.specs.Urgency.{work}
 use Rattle.lrc_rules.proofs.ListedLemmas.{work-listed}
 use Rattle.lrc_book.specs.Looks.{kind_shown}
 use Rattle.lrc_text.specs.Tables.{row_line}
-use Rattle.lrc_show.specs.Shown.{kind_word, sources_of, reads, reads_field, fragments_field, standing_fields, work_row, work_rows}
+use Rattle.lrc_show.specs.Shown.{kind_word, lease_sources, reads, reads_field, fragments_field, standing_fields, work_row, work_rows}
 use Rattle.lrc_show.proofs.FieldLemmas.{own-all, texts-passing}
 use Rattle.lrc_show.proofs.ListLemmas.{flat-more}
 use Rattle.lrc_show.proofs.RowLemmas.{some-if}
@@ -38,16 +38,16 @@ none-if false x is = refl
 module _ (nodes : List NodeInfo) (st : State) (s : StripeNo) where
   -- the row, as its fields are written
   pub work-told : (f : Fragment) (k : Kind) (old a b r c new : List ℕ) → kind_shown nodes st s f ≡ Some k
-      → a ≡ old ++ (decimal s.value ++ codes "," ++ decimal f.value ++ codes "," ++ kind_word k ++ codes ",") → b ≡ a ++ fragments_field (sources_of k)
+      → a ≡ old ++ (decimal s.value ++ codes "," ++ decimal f.value ++ codes "," ++ kind_word k ++ codes ",") → b ≡ a ++ fragments_field (lease_sources k)
       → r ≡ b ++ (codes "," ++ reads_field (reads (code_of st s) (is_safe nodes st s) k))
       → c ≡ r ++ flat_map (λ t. codes "," ++ t) (standing_fields nodes st s f (lease_of st s f)) → new ≡ c ++ codes "\n" → new ≡ old ++ work_row nodes st s f
   work-told f k old a b r c new shown ea eb er ec en =
       let rest = flat_map (λ t. codes "," ++ t) (standing_fields nodes st s f (lease_of st s f)) in
       let count : Kind → List ℕ = λ j. reads_field (reads (code_of st s) (is_safe nodes st s) j) in
       let same = (some-if (has_stripe st s && needs nodes st s f) (kind nodes st s f) k shown).1 in
-      en ∙ ap (λ t. t ++ codes "\n") (ec ∙ ap (λ t. t ++ rest) (er ∙ ap (λ t. t ++ (codes "," ++ count k)) (eb ∙ ap (λ t. t ++ fragments_field (sources_of k)) ea)))
-      ∙ joined old (decimal s.value) (decimal f.value) (kind_word k) (fragments_field (sources_of k)) (count k) rest (codes ",") (codes "\n")
-      ∙ ap (λ (j : Kind). old ++ row_line (decimal s.value ∷ decimal f.value ∷ kind_word j ∷ fragments_field (sources_of j) ∷ count j ∷ standing_fields nodes st s f (lease_of st s f))) (sym same)
+      en ∙ ap (λ t. t ++ codes "\n") (ec ∙ ap (λ t. t ++ rest) (er ∙ ap (λ t. t ++ (codes "," ++ count k)) (eb ∙ ap (λ t. t ++ fragments_field (lease_sources k)) ea)))
+      ∙ joined old (decimal s.value) (decimal f.value) (kind_word k) (fragments_field (lease_sources k)) (count k) rest (codes ",") (codes "\n")
+      ∙ ap (λ (j : Kind). old ++ row_line (decimal s.value ∷ decimal f.value ∷ kind_word j ∷ fragments_field (lease_sources j) ∷ count j ∷ standing_fields nodes st s f (lease_of st s f))) (sym same)
 
   -- ---- the rows of a stripe
 

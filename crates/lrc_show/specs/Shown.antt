@@ -70,20 +70,20 @@ stripe_line s code l m of =
     row_line (decimal s.value ∷ code_name code ∷ level_text l ∷ margin_field (margin_of code m) ∷ set_fields code m ++ set_fields code (homeless_in code of) ++ home_fields code of)
 
 -- the row of a stripe
-abbrev pub stripe_row : List NodeInfo → State → StripeNo → List ℕ
-stripe_row nodes st s = stripe_line s (code_of st s) (level nodes st s) (missing nodes st s) (homes_of st.homes s)
+abbrev pub shown_stripe : List NodeInfo → State → StripeNo → List ℕ
+shown_stripe nodes st s = stripe_line s (code_of st s) (level nodes st s) (missing nodes st s) (homes_of st.homes s)
 
 -- a row for each stripe, in rising order
 abbrev pub stripes_table : List NodeInfo → State → List ℕ
 stripes_table nodes st =
     codes "stripe,code,level,margin,missing,missing_fragments,homeless,homeless_fragments,home_0,home_1,home_2,home_3,home_4,home_5,home_6,home_7,home_8,home_9,home_10,home_11,home_12,home_13,home_14,home_15\n"
-    ++ flat_map (stripe_row nodes st) (stripes_of st)
+    ++ flat_map (shown_stripe nodes st) (stripes_of st)
 
 -- ---- leases
 
 -- the row of a lease
-abbrev pub lease_row : Lease → List ℕ
-lease_row l =
+abbrev pub shown_lease : Lease → List ℕ
+shown_lease l =
     row_line (decimal l.stripe.value ∷ decimal l.fragment.value ∷ decimal l.holder.value ∷ seat_text l.target ∷ decimal l.epoch ∷ decimal l.expiry ∷ [])
 
 -- the live leases of a stripe, in rising order of fragment
@@ -96,7 +96,7 @@ all_leases st = flat_map (leases_of st) (stripes_of st)
 
 -- a row for each live lease
 abbrev pub leases_table : State → List ℕ
-leases_table st = codes "stripe,fragment,holder,target,epoch,expiry\n" ++ flat_map lease_row (all_leases st)
+leases_table st = codes "stripe,fragment,holder,target,epoch,expiry\n" ++ flat_map shown_lease (all_leases st)
 
 -- ---- nodes
 
@@ -106,14 +106,14 @@ target_count st n = count_by (λ l. same_node n l.target.node) (all_leases st)
 
 -- the row of a node: its domains; its mode, and whether it is down, its domain upgrading, and online; the number of homes, of targets
 -- of live leases, and of all held seats; its slots
-abbrev pub node_row : State → NodeInfo → List ℕ
-node_row st n =
+abbrev pub shown_node : State → NodeInfo → List ℕ
+shown_node st n =
     row_line (decimal n.number.value ∷ decimal n.fault.value ∷ decimal n.upgrade.value ∷ mode_text (mode_of st n.number) ∷ online_text (is_down st n.number)
     ∷ online_text (is_upgrading st n) ∷ online_text (is_online st n) ∷ decimal (length (homes_on st n.number)) ∷ decimal (target_count st n.number) ∷ decimal (load st n.number) ∷ decimal n.slots ∷ [])
 
 -- a row for each node, in the order of the file
 abbrev pub nodes_table : List NodeInfo → State → List ℕ
-nodes_table nodes st = codes "node,fault,upgrade,mode,down,upgrading,online,homes,targets,load,slots\n" ++ flat_map (node_row st) nodes
+nodes_table nodes st = codes "node,fault,upgrade,mode,down,upgrading,online,homes,targets,load,slots\n" ++ flat_map (shown_node st) nodes
 
 -- ---- work
 
@@ -125,11 +125,11 @@ kind_word Global = codes "global"
 kind_word Move = codes "move"
 
 -- the fragments that a repair from a local group reads
-abbrev pub sources_of : Kind → List Fragment
-sources_of (Local sources) = sources
-sources_of (Local3 sources) = sources
-sources_of Global = []
-sources_of Move = []
+abbrev pub lease_sources : Kind → List Fragment
+lease_sources (Local sources) = sources
+lease_sources (Local3 sources) = sources
+lease_sources Global = []
+lease_sources Move = []
 
 -- how many fragments are read for a repair of this kind: the sources of a local one; for a global one as many as there are data
 -- fragments, if the missing fragments are recoverable; for a move the fragment itself
@@ -158,7 +158,7 @@ standing_fields nodes st s f None = unleased_word nodes st s f ∷ [] ∷ [] ∷
 -- the row of a fragment that needs a lease
 abbrev pub work_row : List NodeInfo → State → StripeNo → Fragment → List ℕ
 work_row nodes st s f =
-    row_line (decimal s.value ∷ decimal f.value ∷ kind_word (kind nodes st s f) ∷ fragments_field (sources_of (kind nodes st s f))
+    row_line (decimal s.value ∷ decimal f.value ∷ kind_word (kind nodes st s f) ∷ fragments_field (lease_sources (kind nodes st s f))
     ∷ reads_field (reads (code_of st s) (is_safe nodes st s) (kind nodes st s f)) ∷ standing_fields nodes st s f (lease_of st s f))
 
 -- the rows of a stripe

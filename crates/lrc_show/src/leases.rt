@@ -3,7 +3,7 @@
 ghost use Rattle.std.specs.Prelude.{◌≡◌, ◌++◌, string_bytes, IfOk, OnOk, IfErr};
 ghost use Rattle.lrc_code.specs.declared.fault.Fault.TheVariants as fault;
 ghost use Rattle.lrc_book.specs.Books.{state_of};
-ghost use Rattle.lrc_show.specs.Shown.{lease_row, leases_of, all_leases, leases_table};
+ghost use Rattle.lrc_show.specs.Shown.{shown_lease, leases_of, all_leases, leases_table};
 
 use lrc_book::{Book, Lease};
 use lrc_code::{Fault, Fragment, StripeNo};
@@ -50,7 +50,7 @@ pub(crate) fn push_leases(out: &mut String, alloc: Global, book: &Book) -> Resul
 
 /// Adds the row of a lease.
 fn push_lease(out: &mut String, lease: &Lease) -> Result<(), AllocError>
-    ensures { OnOk result (string_bytes out.new ≡ string_bytes out.old ++ lease_row lease.now) }
+    ensures { OnOk result (string_bytes out.new ≡ string_bytes out.old ++ shown_lease lease.now) }
 {
     let stripe = lease.stripe.value;
     let fragment = lease.fragment.value;

@@ -9,7 +9,7 @@ ghost use Rattle.lrc_terms.specs.Levels.{Homes};
 ghost use Rattle.lrc_rules.specs.States.{has_stripe};
 ghost use Rattle.lrc_book.specs.Books.{state_of};
 ghost use Rattle.lrc_text.specs.Tables.{level_text};
-ghost use Rattle.lrc_show.specs.Shown.{hex_field, fragments_field, members_of, home_field, stripe_line, stripe_row, stripes_table};
+ghost use Rattle.lrc_show.specs.Shown.{hex_field, fragments_field, members_of, home_field, stripe_line, shown_stripe, stripes_table};
 
 use crate::words::{push_margin, push_mask, push_members};
 use lrc_book::{Book, Level, Seat, homeless_of};
@@ -39,7 +39,7 @@ pub(crate) fn push_stripes(out: &mut String, book: &Book) -> Result<(), Fault>
 
 /// Adds the row of a stripe, if there is one.
 fn push_stripe(out: &mut String, book: &Book, stripe: StripeNo) -> Result<(), AllocError>
-    ensures { OnOk result (string_bytes out.new ≡ string_bytes out.old ++ (if has_stripe (state_of book.now) stripe then stripe_row book.now.nodes (state_of book.now) stripe else [])) }
+    ensures { OnOk result (string_bytes out.new ≡ string_bytes out.old ++ (if has_stripe (state_of book.now) stripe then shown_stripe book.now.nodes (state_of book.now) stripe else [])) }
 {
     let Some(code) = book.code(stripe) else {
         return Ok(());

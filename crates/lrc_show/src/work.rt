@@ -7,7 +7,7 @@ ghost use Rattle.lrc_rules.specs.States.{has_stripe, code_of, lease_of};
 ghost use Rattle.lrc_rules.specs.Repairs.{is_global, is_safe};
 ghost use Rattle.lrc_book.specs.Books.{state_of};
 ghost use Rattle.lrc_book.specs.Looks.{kind_shown};
-ghost use Rattle.lrc_show.specs.Shown.{kind_word, sources_of, reads, reads_field, unleased_word, standing_fields, work_row, work_rows, work_table};
+ghost use Rattle.lrc_show.specs.Shown.{kind_word, lease_sources, reads, reads_field, unleased_word, standing_fields, work_row, work_rows, work_table};
 
 use crate::words::push_fragments;
 use lrc_book::{Book, Kind};
@@ -52,7 +52,7 @@ fn push_fragment_work(
     ensures { OnOk result (string_bytes out.new ≡ string_bytes out.old ++ work_row book.now.nodes (state_of book.now) stripe fragment) }
 {
     push_head(out, stripe, fragment, kind)?;
-    push_fragments(out, sources_of(kind))?;
+    push_fragments(out, lease_sources(kind))?;
     push_reads(out, reads_of(book, stripe, kind))?;
     push_standing(out, book, stripe, fragment, kind)?;
     out.push_str("\n")?;
@@ -121,8 +121,8 @@ fn kind_word(kind: &Kind) -> &'static str
 }
 
 /// The fragments that a repair from a local group reads.
-fn sources_of(kind: &Kind) -> &[Fragment]
-    ensures { result.now ≡ sources_of kind.now }
+fn lease_sources(kind: &Kind) -> &[Fragment]
+    ensures { result.now ≡ lease_sources kind.now }
 {
     match kind {
         Kind::Local(sources) => sources.as_slice(),
@@ -137,7 +137,7 @@ fn reads_of(book: &Book, stripe: StripeNo, kind: &Kind) -> Option<usize>
     ensures { result ≡ reads (code_of (state_of book.now) stripe) (is_safe book.now.nodes (state_of book.now) stripe) kind.now }
 {
     match kind {
-        Kind::Local(_) | Kind::Local3(_) => Some(sources_of(kind).len()),
+        Kind::Local(_) | Kind::Local3(_) => Some(lease_sources(kind).len()),
         Kind::Global if is_recoverable(book, stripe) => Some(data_count_of(book, stripe)),
         Kind::Global => None,
         Kind::Move => Some(1),

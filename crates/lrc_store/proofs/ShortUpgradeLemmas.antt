@@ -247,6 +247,10 @@ or_false : (a b : Bool) → (a || b) ≡ false → (a ≡ false) × (b ≡ false
 or_false true b e = absurd (cc)
 or_false false b e = (refl, e)
 
+and-off : (a : Bool) → {b : Bool} → b ≡ false → (a && b) ≡ false
+and-off true e = e
+and-off false e = refl
+
 module _ (nodes : List NodeInfo) (st : State) (spare : ℕ) (seated : AreSeated nodes st) (u : UpgradeNo) (none : st.upgrading ≡ None) where
   few-misses : (s : StripeNo) → misses_several (stored_of nodes st spare) s ≡ false → size_of (code_of st s) (missing nodes st s) ≤ 1
   few-misses s few =
@@ -282,7 +286,7 @@ module _ (nodes : List NodeInfo) (st : State) (spare : ℕ) (seated : AreSeated 
   ]
 
   -- a stripe that is lost is short
-  lost-short : (s : StripeNo) → upgrades.is_lost_to (stored_of nodes st spare) u s ≡ true → upgrades.is_short (stored_of nodes st spare) u s ≡ true
+  pub lost-short : (s : StripeNo) → upgrades.is_lost_to (stored_of nodes st spare) u s ≡ true → upgrades.is_short (stored_of nodes st spare) u s ≡ true
   lost-short s lost = by (upgrades.is_short (stored_of nodes st spare) u s) refl where
     by : (b : Bool) → upgrades.is_short (stored_of nodes st spare) u s ≡ b → upgrades.is_short (stored_of nodes st spare) u s ≡ true
     by true e = e
@@ -302,6 +306,12 @@ module _ (nodes : List NodeInfo) (st : State) (spare : ℕ) (seated : AreSeated 
   short-first s is = record {
     lost = (and_parts (upgrades.is_short (stored_of nodes st spare) u s) _ is.lost).1;
     first = λ r lower. lost-either r (is.first r lower);
+  }
+
+  pub first-short : (s : StripeNo) → IsFirstLostTo (stored_of nodes st spare) u s → IsFirstShortLostTo (stored_of nodes st spare) u s
+  first-short s is = record {
+    lost = and_from _ _ (lost-short s is.lost) is.lost;
+    first = λ r lower. and-off (upgrades.is_short (stored_of nodes st spare) u r) (is.first r lower);
   }
 
   pub short-none : ((s : StripeNo) → IsFalse (is_short_lost_to (stored_of nodes st spare) u s)) → (s : StripeNo)

@@ -81,7 +81,7 @@ module _ (nodes : List NodeInfo) (st : State) (u : UpgradeNo) where
       → upgrades.is_lost_to (stored_of nodes st spare) u s ≡ (has_stripe st s && is_lost_to nodes st u s)
   unfolding upgrades.is_lost_to
   lost-as none spare s =
-      ap (λ (t : Stored). has_stripe st s && (upgrades.is_safe (stored_of nodes st spare) s && not (upgrades.is_safe t s))) (domain-out nodes st u none spare)
+      ap (λ (t : Stored). has_stripe st s && (upgrades.is_recoverable_now (stored_of nodes st spare) s && not (upgrades.is_recoverable_now t s))) (domain-out nodes st u none spare)
       ∙ ap₂ (λ (now later : NodeNo → Bool). has_stripe st s && (is_recoverable (code_of st s) (missing_in (code_of st s) now (homes_of st.homes s)) && not (is_recoverable (code_of st s) (missing_in (code_of st s) later (homes_of st.homes s)))))
       (online-kept nodes st) (online-kept nodes (with_upgrading st u))
 

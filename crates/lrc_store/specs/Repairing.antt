@@ -44,7 +44,7 @@ IsRepairCursor nodes st End = (p : StripeFragment) → ¬ (IsGrantable nodes st 
 abbrev pub HasRepairCursor : Store → RepairCursor → Type 0
 HasRepairCursor s cursor = (st : State) × IsOf st s × IsRepairCursor s.topology st cursor
 
--- the stripes are there, are in the order of repair, and are all that have a grantable fragment
+-- (internal) the stripes are there, are in the order of repair, and are all that have a grantable fragment
 pub record HaveGrantable (nodes : List NodeInfo) (st : State) (stripes : List StripeNo) : Type 0 where
   pub there : (s : StripeNo) → Contains stripes s → Contains st.stripes s
   pub rising : AllPairs (λ r s. IsTrue (comes_first (rank nodes st) r s)) stripes

@@ -8,6 +8,7 @@ mod clock;
 mod commands;
 mod cursor;
 mod decide;
+pub mod laws;
 mod repair;
 mod store;
 

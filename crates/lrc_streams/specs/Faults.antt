@@ -4,7 +4,7 @@ use Rattle.lrc_code.specs.declared.fault.Fault.TheVariants as book
 use Rattle.lrc_streams.specs.declared.streams.RunFault.{RunFault}
 use Rattle.lrc_streams.specs.declared.streams.RunFault.TheVariants as run
 
--- the fault of a run that was stopped by a fault of the book
+-- (internal) the fault of a run that was stopped by a fault of the book
 abbrev pub run_fault : Fault → RunFault
 run_fault book.OutOfMemory = run.OutOfMemory
 run_fault book.HistoryFull = run.HistoryFull

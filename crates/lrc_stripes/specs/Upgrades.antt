@@ -17,12 +17,12 @@ abbrev pub with_upgrade : Stored → UpgradeNo → Stored
 with_upgrade t u = with_upgrading_in t u true
 
 -- the missing fragments of the stripe are recoverable
-abbrev pub is_safe : Stored → StripeNo → Bool
-is_safe t s = is_recoverable (t.code s) (missing_in (t.code s) (online_in t.nodes) (t.homes s))
+abbrev pub is_recoverable_now : Stored → StripeNo → Bool
+is_recoverable_now t s = is_recoverable (t.code s) (missing_in (t.code s) (online_in t.nodes) (t.homes s))
 
 -- the stripe exists, is recoverable now, and would not be with the nodes of the domain offline
 unfoldable pub is_lost_to : Stored → UpgradeNo → StripeNo → Bool
-is_lost_to t u s = t.stripes s && (is_safe t s && not (is_safe (with_upgrade t u) s))
+is_lost_to t u s = t.stripes s && (is_recoverable_now t s && not (is_recoverable_now (with_upgrade t u) s))
 
 -- a fragment of the stripe has its home on the node
 abbrev pub is_stripe_on : Stored → NodeNo → StripeNo → Bool

@@ -33,7 +33,7 @@ impl Model for Stripes {
     ghost use Rattle.lrc_rows.specs.Listed.{rows_in, row_homes};
     ghost use Rattle.lrc_rows.specs.NodeStates.{states_in};
     ghost use Rattle.lrc_rows.specs.Kept.{IsKept};
-    ghost use Rattle.lrc_homes.specs.HomeArrays.{AreDomainsKept};
+    ghost use Rattle.lrc_homes.specs.Domains.{AreDomainsKept};
 
     ghost Value = { Table };
 

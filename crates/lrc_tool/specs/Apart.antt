@@ -5,7 +5,7 @@ use Rattle.lrc_outputs.specs.declared.sequel.Goal.{Goal}
 use Rattle.lrc_outputs.specs.declared.status.Status.{Status}
 use Rattle.lrc_streams.specs.Streams.{AppendsPart}
 use Rattle.lrc_refusals.specs.declared.refusal.InputRefusal.{InputRefusal}
-use Rattle.lrc_refusals.specs.Refusals.{refusal_line, refusal_text}
+use Rattle.lrc_refusals.specs.Refusals.{refusal_line, input_refusal_text}
 use Rattle.lrc_outputs.specs.RefusedInputs.{is_answer}
 use Rattle.lrc_outputs.specs.Sequels.{IsSequelOutput}
 
@@ -18,12 +18,12 @@ pub record Written : Type 0 where
 -- words, and nothing to the first.
 abbrev pub AreWrittenApart : Bool → List ℕ → Written → Written → Type 0
 AreWrittenApart true text sink errors = Appends sink.old sink.new text × Keeps errors.old errors.new
-AreWrittenApart false text sink errors = Keeps sink.old sink.new × (r : InputRefusal) × (text ≡ refusal_line r) × Appends errors.old errors.new (refusal_text r)
+AreWrittenApart false text sink errors = Keeps sink.old sink.new × (r : InputRefusal) × (text ≡ refusal_line r) × Appends errors.old errors.new (input_refusal_text r)
 
 -- the same of a prefix
 abbrev pub ArePartlyWrittenApart : Bool → List ℕ → Written → Written → Type 0
 ArePartlyWrittenApart true text sink errors = AppendsPart sink.old sink.new text × Keeps errors.old errors.new
-ArePartlyWrittenApart false text sink errors = Keeps sink.old sink.new × (r : InputRefusal) × (text ≡ refusal_line r) × AppendsPart errors.old errors.new (refusal_text r)
+ArePartlyWrittenApart false text sink errors = Keeps sink.old sink.new × (r : InputRefusal) × (text ≡ refusal_line r) × AppendsPart errors.old errors.new (input_refusal_text r)
 
 -- what was written to was flushed after its last write
 abbrev pub IsFlushedApart : Bool → Bool → Bool → Type 0

@@ -3,7 +3,7 @@
 ghost use Rattle.std.specs.Prelude.{◌≡◌, ◌≢◌, ◌||◌, ◌⊎◌, ◌+◌, OnOk, IfOk, IfErr, IfSome, IsErrOf};
 ghost use Rattle.std.specs.Io.KnownBytes.{Keeps};
 ghost use Rattle.lrc_streams.specs.Streams.{is_read_fault, is_write_fault, ConsumesAtMost};
-ghost use Rattle.lrc_refusals.specs.Refusals.{refusal_text};
+ghost use Rattle.lrc_refusals.specs.Refusals.{input_refusal_text};
 ghost use Rattle.lrc_outputs.specs.RefusedInputs.{is_answer};
 ghost use Rattle.lrc_tool.specs.Apart.{AreWrittenApart, ArePartlyWrittenApart, IsFlushedApart, WritesApart, WritesPartApart};
 ghost use Rattle.lrc_streams.specs.declared.streams.RunFault.TheVariants as fault;
@@ -71,15 +71,15 @@ fn write_apart<W: Sink, E: Sink>(
     match output.refusal {
         None => write_all(sink, output.text.as_slice()),
         Some(refusal) => {
-            let told = refusal_text(alloc, refusal)?;
+            let told = input_refusal_text(alloc, refusal)?;
             write_all(errors, told.as_slice())
         }
     }
 }
 
 /// The text of a refusal: its words, and its line behind them.
-fn refusal_text(alloc: Global, refusal: InputRefusal) -> Result<Vec<u8>, AllocError>
-    ensures { IfOk result (λ told. told.items ≡ refusal_text refusal) }
+fn input_refusal_text(alloc: Global, refusal: InputRefusal) -> Result<Vec<u8>, AllocError>
+    ensures { IfOk result (λ told. told.items ≡ input_refusal_text refusal) }
 {
     let mut told = String::new(alloc);
     refusal.push_text(&mut told)?;

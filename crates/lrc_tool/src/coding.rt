@@ -8,7 +8,7 @@ ghost use Rattle.lrc_coding.specs.Told.{matrix_text};
 ghost use Rattle.lrc_streams.specs.Streams.{is_write_fault, AppendsPart};
 ghost use Rattle.lrc_streams.specs.declared.streams.RunFault.TheVariants as fault;
 ghost use Rattle.lrc_tool.specs.Apart.{IsFlushedApart};
-ghost use Rattle.lrc_tool.specs.Coding.{told_text, IsTold, IsPartlyTold, WritesRecipe, WritesPartOfRecipe};
+ghost use Rattle.lrc_tool.specs.Coding.{told_text, IsToldOn, IsPartlyToldOn, WritesRecipe, WritesPartOfRecipe};
 
 use lrc_code::Code;
 use lrc_coding::{Recipe, RecipeRefusal, push_matrix, push_recipe, recipe_for};
@@ -64,8 +64,8 @@ fn write_told<W: Sink, E: Sink>(
     sink: &mut W,
     errors: &mut E,
 ) -> Result<(), RunFault>
-    ensures written { OnOk result (IsTold is_answer told.now (record { old = W.written sink.old; new = W.written sink.new }) (record { old = E.written errors.old; new = E.written errors.new })) }
-    ensures part { IsErrOf result fault.Write → IsPartlyTold is_answer told.now (record { old = W.written sink.old; new = W.written sink.new }) (record { old = E.written errors.old; new = E.written errors.new }) }
+    ensures written { OnOk result (IsToldOn is_answer told.now (record { old = W.written sink.old; new = W.written sink.new }) (record { old = E.written errors.old; new = E.written errors.new })) }
+    ensures part { IsErrOf result fault.Write → IsPartlyToldOn is_answer told.now (record { old = W.written sink.old; new = W.written sink.new }) (record { old = E.written errors.old; new = E.written errors.new }) }
     ensures flushed { OnOk result (IsFlushedApart is_answer (W.is_flushed sink.new) (E.is_flushed errors.new)) }
     ensures err { IfErr result (λ e. e ≡ fault.Write) }
     ensures write { (W.has_failed sink.new || E.has_failed errors.new) ≡ ((W.has_failed sink.old || E.has_failed errors.old) || is_write_fault result) }

@@ -18,7 +18,7 @@ use Rattle.lrc_rules.specs.States.{State, has_stripe, code_of, code_shown, level
 use Rattle.lrc_rules.proofs.NodeLemmas.{node_at-member}
 use Rattle.lrc_records.specs.declared.stripe.LrcStripe.{LrcStripe}
 use Rattle.lrc_records.specs.Shown.{encoded_stripe}
-use Rattle.lrc_walks.specs.WalkRows.{stripe_row}
+use Rattle.lrc_walks.specs.WalkRows.{stripe_record}
 
 -- ---- stripes
 
@@ -34,7 +34,7 @@ level-none true code online homes is = absurd (cc)
 
 module _ (nodes : List NodeInfo) (st : State) (s : StripeNo) where
   abbrev row_if : Bool → Option LrcStripe
-  row_if there = if there then Some (stripe_row nodes st s) else None
+  row_if there = if there then Some (stripe_record nodes st s) else None
 
   -- a stripe of which the book returns nothing has no row
   pub row-unmissing : None ≡ missing_shown nodes st s → None ≡ row_if (has_stripe st s)

@@ -15,7 +15,7 @@ use Rattle.lrc_records.specs.declared.lease.LrcLease.{LrcLease}
 use Rattle.lrc_records.specs.declared.fragment.LrcFragment.{LrcFragment}
 use Rattle.lrc_records.specs.Shown.{encoded_fragment}
 use Rattle.lrc_records.specs.Replies.{encoded_lease}
-use Rattle.lrc_walks.specs.WalkRows.{is_from, place_at, stripe_row, stripes_from, leases_from}
+use Rattle.lrc_walks.specs.WalkRows.{is_from, place_at, stripe_record, stripes_from, leases_from}
 use Rattle.lrc_walks.proofs.FoundLemmas.{found-part, found-from, found-map, found-each, found-passing, found-tested, passing-both}
 use Rattle.lrc_walks.proofs.PlaceLemmas.{places-are, place-early}
 
@@ -27,7 +27,7 @@ not-from from k low = false_from_ne_true (nat_le from k) (λ e. omega (arith, lo
 module _ (b : BookView) (from : ℕ) where
   -- the row of a stripe, if it is there
   abbrev row_there : StripeNo → Option LrcStripe
-  row_there s = if has_stripe (state_of b) s then Some (stripe_row b.nodes (state_of b) s) else None
+  row_there s = if has_stripe (state_of b) s then Some (stripe_record b.nodes (state_of b) s) else None
 
   -- the same, if the walk goes over its number
   abbrev pub stripe_found : StripeNo → Option LrcStripe
@@ -38,7 +38,7 @@ module _ (b : BookView) (from : ℕ) where
 
   numbered-found : (n : ℕ) → n ≤ 4096
       → filter_map (λ i. stripe_found (stripe_at i)) (range_with_len from (n - from))
-      ≡ map (stripe_row b.nodes (state_of b)) (filter is_over (filter (has_stripe (state_of b)) (map stripe_at (range_with_len 0 n))))
+      ≡ map (stripe_record b.nodes (state_of b)) (filter is_over (filter (has_stripe (state_of b)) (map stripe_at (range_with_len 0 n))))
   numbered-found n few =
       let numbers = map stripe_at (range_with_len 0 n) in
       found-part (λ i. stripe_found (stripe_at i)) from n
@@ -47,8 +47,8 @@ module _ (b : BookView) (from : ℕ) where
       ap (λ (t : Bool). if t then row_there (stripe_at i) else None) (not-from from (stripe_at i).value (omega (arith, early, number))))
       ∙ sym (found-map stripe_found stripe_at (range_with_len 0 n))
       ∙ found-tested is_over row_there numbers
-      ∙ found-passing (has_stripe (state_of b)) (stripe_row b.nodes (state_of b)) (filter is_over numbers)
-      ∙ ap (map (stripe_row b.nodes (state_of b))) (passing-both (has_stripe (state_of b)) is_over numbers)
+      ∙ found-passing (has_stripe (state_of b)) (stripe_record b.nodes (state_of b)) (filter is_over numbers)
+      ∙ ap (map (stripe_record b.nodes (state_of b))) (passing-both (has_stripe (state_of b)) is_over numbers)
 
   pub stripes-found : filter_map (λ i. stripe_found (stripe_at i)) (range_with_len from (4096 - from)) ≡ stripes_from b from
   unfolding stripes_of

@@ -27,25 +27,25 @@ AreFirstRows rows count before after = (count ≡ length rows) × (after ≡ row
 abbrev pub is_from : ℕ → ℕ → StripeFragment → Bool
 is_from stripe fragment p = nat_lt stripe p.0.value || (nat_eq stripe p.0.value && nat_le fragment p.1.value)
 
--- the fragment at a place among all, of which each stripe number has sixteen
+-- (internal) the fragment at a place among all, of which each stripe number has sixteen
 abbrev pub place_at : ℕ → StripeFragment
 place_at k = (stripe_at (k / 16), record { value = k % 16; in_range = mod_below k 16 (lit< tt) })
 
 -- the row of a stripe
-abbrev pub stripe_row : List NodeInfo → State → StripeNo → LrcStripe
-stripe_row nodes st s = encoded_stripe s (code_of st s) (record { bits = bits_of (code_of st s) (missing nodes st s) }) (level nodes st s)
+abbrev pub stripe_record : List NodeInfo → State → StripeNo → LrcStripe
+stripe_record nodes st s = encoded_stripe s (code_of st s) (record { bits = bits_of (code_of st s) (missing nodes st s) }) (level nodes st s)
 
 -- the stripes of the store from a number on, in rising order
 abbrev pub stripes_from : BookView → ℕ → List LrcStripe
-stripes_from b from = map (stripe_row b.nodes (state_of b)) (filter (λ s. nat_le from s.value) (stripes_of (state_of b)))
+stripes_from b from = map (stripe_record b.nodes (state_of b)) (filter (λ s. nat_le from s.value) (stripes_of (state_of b)))
 
 -- the row of a node
-abbrev pub node_row : State → NodeInfo → LrcNode
-node_row st n = encoded_node n (mode_of st n.number, is_online st n) (is_down st n.number) (load st n.number)
+abbrev pub node_record : State → NodeInfo → LrcNode
+node_record st n = encoded_node n (mode_of st n.number, is_online st n) (is_down st n.number) (load st n.number)
 
 -- the nodes from a position on, in the order of the text
 abbrev pub nodes_from : BookView → ℕ → List LrcNode
-nodes_from b from = map (node_row (state_of b)) (drop from b.nodes)
+nodes_from b from = map (node_record (state_of b)) (drop from b.nodes)
 
 -- the live leases from a fragment on, in rising order of stripe and fragment
 abbrev pub leases_from : BookView → ℕ → ℕ → List LrcLease

@@ -9,7 +9,7 @@ ghost use Rattle.lrc_rules.specs.States.{has_stripe, lease_of};
 ghost use Rattle.lrc_book.specs.Books.{state_of};
 ghost use Rattle.lrc_records.specs.Replies.{encoded_lease, encoded_entry};
 ghost use Rattle.lrc_records.specs.Shown.{encoded_fragment};
-ghost use Rattle.lrc_walks.specs.WalkRows.{AreFirstRows, is_from, place_at, stripe_row, stripes_from, node_row, nodes_from, leases_from, entries_from};
+ghost use Rattle.lrc_walks.specs.WalkRows.{AreFirstRows, is_from, place_at, stripe_record, stripes_from, node_record, nodes_from, leases_from, entries_from};
 
 use lrc_book::{Book, Entry};
 use lrc_code::{FRAGMENTS, Fragment, STRIPES, StripeNo};
@@ -55,14 +55,14 @@ pub fn put_stripes(book: &Book, from: u16, rows: &mut [LrcStripe]) -> usize
 
 /// The row of the stripe of a number, if there is one.
 fn stripe_numbered(book: &Book, number: usize) -> Option<LrcStripe>
-    ensures { number < 4096 → result ≡ (if has_stripe (state_of book.now) (stripe_at number) then Some (stripe_row book.now.nodes (state_of book.now) (stripe_at number)) else None) }
+    ensures { number < 4096 → result ≡ (if has_stripe (state_of book.now) (stripe_at number) then Some (stripe_record book.now.nodes (state_of book.now) (stripe_at number)) else None) }
 {
     row_of(book, StripeNo::new(u16::try_from(number).ok()?)?)
 }
 
 /// The row of a stripe, if it is there.
 fn row_of(book: &Book, stripe: StripeNo) -> Option<LrcStripe>
-    ensures { result ≡ (if has_stripe (state_of book.now) stripe then Some (stripe_row book.now.nodes (state_of book.now) stripe) else None) }
+    ensures { result ≡ (if has_stripe (state_of book.now) stripe then Some (stripe_record book.now.nodes (state_of book.now) stripe) else None) }
 {
     Some(LrcStripe::of(
         stripe,
@@ -82,11 +82,11 @@ pub fn put_nodes(book: &Book, from: usize, rows: &mut [LrcNode]) -> usize
 
 /// The row of the node at a position of the text.
 fn node_in(book: &Book, position: usize) -> Option<LrcNode>
-    ensures { result ≡ option_map (node_row (state_of book.now)) (slice_get book.now.nodes position) }
+    ensures { result ≡ option_map (node_record (state_of book.now)) (slice_get book.now.nodes position) }
 {
     let nodes = book.topology().nodes();
     let node = node_at(nodes.as_slice(), position)?;
-    Some(node_row(book, &node))
+    Some(node_record(book, &node))
 }
 
 /// The node at a position, if there is one.
@@ -97,9 +97,9 @@ fn node_at(nodes: &[NodeInfo], position: usize) -> Option<NodeInfo>
 }
 
 /// The row of a node of the book.
-fn node_row(book: &Book, node: &NodeInfo) -> LrcNode
+fn node_record(book: &Book, node: &NodeInfo) -> LrcNode
     requires { node_at book.now.nodes node.now.number ≡ Some node.now }
-    ensures { result ≡ node_row (state_of book.now) node.now }
+    ensures { result ≡ node_record (state_of book.now) node.now }
 {
     LrcNode::of(
         node,

@@ -2,7 +2,7 @@
 
 ghost use Rattle.std.specs.Prelude.{◌≡◌, ◌≢◌, ◌<◌, ◌⊎◌, true, false, is_some, Some, None, length, map};
 ghost use Rattle.lrc_forecast.specs.declared.outlook.Outage.{Outage as AnyOutage};
-ghost use Rattle.lrc_forecast.specs.Forecasts.{is_safe};
+ghost use Rattle.lrc_forecast.specs.Forecasts.{harms_none};
 ghost use Rattle.lrc_records.specs.Shown.{flag};
 ghost use Rattle.lrc_walks.specs.Outages.{outage_of, are_nodes, outlooks_of, outlook_row};
 ghost use Rattle.lrc_walks.specs.WalkRows.{AreFirstRows};
@@ -32,7 +32,7 @@ pub extern "C" fn lrc_embed_forecast(
     ensures same { handle.new.owned.book ≡ handle.old.owned.book }
     ensures rows { (result ≡ 0) → Of handle.old.owned.book (λ b. (o : AnyOutage) × (outage_of outage ≡ Some o) × AreFirstRows (map outlook_row (outlooks_of b o nodes.now)) count.new rows.old rows.new) }
     ensures short { (result ≡ 7) → Of handle.old.owned.book (λ b. (o : AnyOutage) × (outage_of outage ≡ Some o) × (count.new ≡ length (outlooks_of b o nodes.now)) × (length rows.old < length (outlooks_of b o nodes.now))) }
-    ensures safe { (result ≡ 0) ⊎ (result ≡ 7) → Of handle.old.owned.book (λ b. (o : AnyOutage) × (outage_of outage ≡ Some o) × (safe.new ≡ flag (is_safe (outlooks_of b o nodes.now)))) }
+    ensures safe { (result ≡ 0) ⊎ (result ≡ 7) → Of handle.old.owned.book (λ b. (o : AnyOutage) × (outage_of outage ≡ Some o) × (safe.new ≡ flag (harms_none (outlooks_of b o nodes.now)))) }
     ensures unknown { (result ≢ 1) → (result ≢ 3) → Of handle.old.owned.book (λ b. (are_nodes b nodes.now ≡ false → result ≡ 4) × (result ≡ 4 → are_nodes b nodes.now ≡ false)) }
     ensures closed { (result ≡ 1) → handle.old.owned.book ≡ None }
     ensures range { (result ≡ 3) → outage_of outage ≡ None }
@@ -67,7 +67,7 @@ fn put_forecast(
 ) -> u32
     ensures rows { (result ≡ 0) → AreFirstRows (map outlook_row (outlooks_of book.now outage nodes.now)) count.new rows.old rows.new }
     ensures short { (result ≡ 7) → (count.new ≡ length (outlooks_of book.now outage nodes.now)) × (length rows.old < length (outlooks_of book.now outage nodes.now)) }
-    ensures safe { (result ≡ 0) ⊎ (result ≡ 7) → safe.new ≡ flag (is_safe (outlooks_of book.now outage nodes.now)) }
+    ensures safe { (result ≡ 0) ⊎ (result ≡ 7) → safe.new ≡ flag (harms_none (outlooks_of book.now outage nodes.now)) }
     ensures unknown { (are_nodes book.now nodes.now ≡ false → result ≡ 4) × (result ≡ 4 → are_nodes book.now nodes.now ≡ false) }
     ensures statuses { (result ≡ 0) ⊎ (result ≡ 4) ⊎ (result ≡ 6) ⊎ (result ≡ 7) }
     ensures unwritten { (result ≢ 0) → rows.new ≡ rows.old }

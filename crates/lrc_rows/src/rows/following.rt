@@ -4,7 +4,7 @@ ghost use Rattle.std.specs.Prelude.{◌≡◌, if◌then◌else◌, Bool, true, 
 ghost use Rattle.lrc_code.specs.Numbers.{same_node};
 ghost use Rattle.lrc_code.specs.declared.numbers.NodeNo.{NodeNo as AnyNode};
 ghost use Rattle.lrc_code.specs.declared.numbers.StripeNo.{StripeNo as AnyStripe};
-ghost use Rattle.lrc_homes.specs.HomeArrays.{AreDomainsKept};
+ghost use Rattle.lrc_homes.specs.Domains.{AreDomainsKept};
 ghost use Rattle.lrc_ranks.specs.Sets.{has};
 ghost use Rattle.lrc_rows.specs.NodeStates.{states_in, is_in_domain};
 ghost use Rattle.lrc_rows.specs.Listed.{rows_in, row_homes};

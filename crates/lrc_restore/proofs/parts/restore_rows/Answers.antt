@@ -4,7 +4,7 @@ use Rattle.lrc_topology.specs.declared.NodeInfo.{NodeInfo}
 use Rattle.lrc_restore.specs.declared.error.BeginError.TheVariants.{Refused}
 use Rattle.lrc_restore.specs.declared.error.RefusedRow.{RefusedRow}
 use Rattle.lrc_restore.specs.Stages.{nodes_refusal, stripes_refusal, leases_refusal}
-use Rattle.lrc_restore.specs.Refused.{IsRefusedBy}
+use Rattle.lrc_restore.specs.Refused.{IsRefusedFor}
 use Rattle.lrc_images.specs.Causes.{first_cause}
 use Rattle.lrc_restore.proofs.RefusalLemmas.{head-first, nodes-first, stripes-first, grants-first, leases-first, all-lawful, if-err}
 use Rattle.lrc_restore.proofs.parts.restore_rows.Goals as goal
@@ -27,7 +27,7 @@ returns-in_err-restore_nodes-clause-refused c =
     let p = err_from_is_err_and c.from_residual-in_err-restore_nodes.result c.from_residual-in_err-restore_nodes.ensures.1 in
     let row = c.in_err-restore_nodes.field-0.0 in
     let e = Refused row.position row.cause in
-    rw (p.1, p.2) (nodes-first nodes i head e (subst (λ (ns : List NodeInfo). IsRefusedBy (nodes_refusal ns i) e) one c.in_err-restore_nodes.ensures.refused))
+    rw (p.1, p.2) (nodes-first nodes i head e (subst (λ (ns : List NodeInfo). IsRefusedFor (nodes_refusal ns i) e) one c.in_err-restore_nodes.ensures.refused))
 
 pub returns-in_err-restore_stripes-clause-refused : goal.returns-in_err-restore_stripes-clause-refused
 returns-in_err-restore_stripes-clause-refused c =
@@ -40,7 +40,7 @@ returns-in_err-restore_stripes-clause-refused c =
     let p = err_from_is_err_and c.from_residual-in_err-restore_stripes.result c.from_residual-in_err-restore_stripes.ensures.1 in
     let row = c.in_err-restore_stripes.field-0.0 in
     let e = Refused row.position row.cause in
-    rw (p.1, p.2) (stripes-first nodes i head node_rows e (subst (λ (ns : List NodeInfo). IsRefusedBy (stripes_refusal ns i) e) two c.in_err-restore_stripes.ensures.refused))
+    rw (p.1, p.2) (stripes-first nodes i head node_rows e (subst (λ (ns : List NodeInfo). IsRefusedFor (stripes_refusal ns i) e) two c.in_err-restore_stripes.ensures.refused))
 
 pub returns-in_err-restore_grants-clause-refused : goal.returns-in_err-restore_grants-clause-refused
 returns-in_err-restore_grants-clause-refused c =

@@ -1,6 +1,6 @@
 use Rattle.std.proofs.Common.{rules, ◌≡◌, codes, string_bytes}
 use Rattle.lrc_book.specs.Books.{state_of}
-use Rattle.lrc_show.specs.Shown.{lease_row, all_leases}
+use Rattle.lrc_show.specs.Shown.{shown_lease, all_leases}
 use Rattle.lrc_show.proofs.ListLemmas.{table-all}
 use Rattle.lrc_show.proofs.leases.push_leases.Goals as goal
 
@@ -9,5 +9,5 @@ returns-clause-text c =
     let st = state_of c.args.book.now in
     let items = c.as_slice-lease-items.result.now in
     let all : items ≡ all_leases st = search rules in
-    table-all lease_row items (all_leases st) c.loop-lease.lease-index (codes "stripe,fragment,holder,target,epoch,expiry\n") (string_bytes c.args.out.now) _ (string_bytes c.loop-lease.out)
+    table-all shown_lease items (all_leases st) c.loop-lease.lease-index (codes "stripe,fragment,holder,target,epoch,expiry\n") (string_bytes c.args.out.now) _ (string_bytes c.loop-lease.out)
     c.loop-lease-test.false c.loop-lease.invariant c.in_ok-push_str.ensures.bytes all

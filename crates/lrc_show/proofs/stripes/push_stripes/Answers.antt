@@ -2,7 +2,7 @@ use Rattle.std.proofs.Common.{rules, ◌≡◌, ◌++◌, List, codes, flat_map,
 use Rattle.lrc_code.specs.declared.numbers.StripeNo.{StripeNo}
 use Rattle.lrc_terms.specs.Stripes.{stripe_at}
 use Rattle.lrc_book.specs.Books.{state_of}
-use Rattle.lrc_show.specs.Shown.{stripe_row}
+use Rattle.lrc_show.specs.Shown.{shown_stripe}
 use Rattle.lrc_book.proofs.StripeLemmas.{own-number, stripes-none}
 use Rattle.lrc_show.proofs.RowLemmas.{rows-more, rows-all}
 use Rattle.lrc_show.proofs.stripes.push_stripes.Goals as goal
@@ -11,7 +11,7 @@ pub loop-number-init : goal.loop-number-init
 loop-number-init c =
     let start = string_bytes c.push_str.new.self in
     sym (append-nil start)
-    ∙ ap (λ (l : List StripeNo). start ++ flat_map (stripe_row c.args.book.now.nodes (state_of c.args.book.now)) l) (sym (stripes-none (state_of c.args.book.now)))
+    ∙ ap (λ (l : List StripeNo). start ++ flat_map (shown_stripe c.args.book.now.nodes (state_of c.args.book.now)) l) (sym (stripes-none (state_of c.args.book.now)))
 
 pub loop-number-preserved : goal.loop-number-preserved
 loop-number-preserved c =

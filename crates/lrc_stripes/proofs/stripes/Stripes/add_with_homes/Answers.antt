@@ -7,8 +7,7 @@ use Rattle.lrc_code.specs.declared.codes.Code.{Code}
 use Rattle.lrc_rows.specs.Kept.{IsKept}
 use Rattle.lrc_homes.specs.Homes.{seated_homes}
 use Rattle.lrc_homes.specs.Masks.{AreLosses}
-use Rattle.lrc_homes.specs.Domains.{AreDomainsOf}
-use Rattle.lrc_homes.specs.HomeArrays.{AreDomainsKept}
+use Rattle.lrc_homes.specs.Domains.{AreDomainsOf, AreDomainsKept}
 use Rattle.lrc_rows.proofs.DomainLemmas.{domains-put}
 use Rattle.lrc_stripes.specs.Stored.{has_slot}
 use Rattle.lrc_rows.specs.NodeStates.{NodeStates, states_in}

@@ -3,7 +3,7 @@ use Rattle.lrc_code.specs.Numbers.{same_node}
 use Rattle.lrc_nodes.specs.States.{state_at, with_state}
 use Rattle.lrc_nodes.proofs.SetLemmas.{same-state}
 use Rattle.lrc_rows.specs.NodeStates.{has_node, NodeLists, states_in}
-use Rattle.lrc_homes.specs.HomeArrays.{AreDomainsKept}
+use Rattle.lrc_homes.specs.Domains.{AreDomainsKept}
 use Rattle.lrc_rows.specs.Kept.{IsKept}
 use Rattle.lrc_stripes.specs.Tables.{stored_in}
 use Rattle.lrc_rows.specs.Listed.{rows_in, row_homes}

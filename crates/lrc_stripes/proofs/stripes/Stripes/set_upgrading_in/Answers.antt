@@ -2,7 +2,7 @@ use Rattle.std.proofs.Common.{◌≡◌, Bool, true, false, ap, sym, subst}
 use Rattle.lrc_code.specs.declared.numbers.NodeNo.{NodeNo}
 use Rattle.lrc_nodes.specs.States.{with_upgrading_in}
 use Rattle.lrc_nodes.proofs.SetLemmas.{same-upgrading}
-use Rattle.lrc_homes.specs.HomeArrays.{AreDomainsKept}
+use Rattle.lrc_homes.specs.Domains.{AreDomainsKept}
 use Rattle.lrc_rows.specs.Kept.{WereKept}
 use Rattle.lrc_rows.specs.NodeStates.{NodeLists, states_in, is_in_domain}
 use Rattle.lrc_stripes.specs.Tables.{stored_in}
