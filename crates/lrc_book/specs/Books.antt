@@ -61,16 +61,16 @@ abbrev pub IsStep : BookView → Entry → Type 0
 IsStep b e = (outcome_in b.nodes (world_of b) e.session e.command).0 ≡ e.reply
 
 -- the state after the entry, as the book's next one
-abbrev pub state_with : BookView → Entry → State
-state_with b e = (next_world b.nodes (world_of b) e).state
+abbrev pub state_after_entry : BookView → Entry → State
+state_after_entry b e = (next_world b.nodes (world_of b) e).state
 
 -- What the entry changes of the published view: the levels of the stripes and the loads of the nodes for which the two tests
 -- hold, and no others. Each of these is that of the state after the entry.
 pub record ChangesTheseAlone (b : BookView) (e : Entry) : Type 0 where
   pub levels : (s : StripeNo) → IsFalse (can_change_level b.nodes (state_of b) s e.command)
-      → level_shown b.nodes (state_with b e) s ≡ level_shown b.nodes (state_of b) s
+      → level_shown b.nodes (state_after_entry b e) s ≡ level_shown b.nodes (state_of b) s
   pub loads : (n : NodeNo) → IsFalse (can_change_load (state_of b) n e.command e.reply)
-      → load (state_with b e) n ≡ load (state_of b) n
+      → load (state_after_entry b e) n ≡ load (state_of b) n
 
 -- no book can begin in the state: a count of grants, the clock or the number of entries is above the most with which one
 -- can

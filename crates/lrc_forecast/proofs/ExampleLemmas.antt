@@ -30,7 +30,7 @@ use Rattle.lrc_rules.proofs.MemberLemmas.{Contains-here, Contains-cases, not-Con
 use Rattle.lrc_forecast.specs.declared.outlook.Outage.{Outage}
 use Rattle.lrc_forecast.specs.declared.outlook.Outlook.{Outlook}
 use Rattle.lrc_forecast.specs.declared.outlook.Outage.TheVariants.{Stop, Lose}
-use Rattle.lrc_forecast.specs.Forecasts.{state_with, outlook, is_unrecoverable, is_level, is_harmed, forecast, is_safe}
+use Rattle.lrc_forecast.specs.Forecasts.{state_with, loses_seat, outlook, is_unrecoverable, is_harmed, forecast, harms_none}
 use Rattle.lrc_forecast.proofs.SafeLemmas.{safe-harmless}
 
 -- ---- the store
@@ -112,44 +112,41 @@ both-is Lose = refl
 
 -- ---- forecasts
 
-at_risk : (before after : Level) (more : Bool) → after ≡ AtRisk 0 → (is_unrecoverable after && (not (is_level before after) || more)) ≡ false
+at_risk : (before after : Level) (more : Bool) → after ≡ AtRisk 0 → (is_unrecoverable after && (not (is_unrecoverable before) || more)) ≡ false
 at_risk before after more is = rw is refl
 
-unavailable : (before after : Level) (more : Bool) → before ≡ AtRisk 1 → after ≡ Unavailable → (is_unrecoverable after && (not (is_level before after) || more)) ≡ true
+unavailable : (before after : Level) (more : Bool) → before ≡ AtRisk 1 → after ≡ Unavailable → (is_unrecoverable after && (not (is_unrecoverable before) || more)) ≡ true
 unavailable before after more was is = rw (is, was) refl
 
 -- what becomes of the stripe
 abbrev outlook_with : Outage → List NodeNo → Outlook
 outlook_with outage ns = outlook ten_nodes two_down (state_with outage two_down ns) stripe
 
-abbrev more_harm : Outlook → Bool
-more_harm o = not (nat_eq o.newly_missing.bits 0) || not (nat_eq o.leases_ended 0)
-
 -- a forecast in which the only stripe is at risk is safe
 safe-by : (outage : Outage) (ns : List NodeNo) → level ten_nodes (state_with outage two_down ns) stripe ≡ AtRisk 0
-    → is_safe (forecast ten_nodes two_down outage ns) ≡ true
+    → harms_none (forecast ten_nodes two_down outage ns) ≡ true
 safe-by outage ns is = (safe-harmless ten_nodes two_down (state_with outage two_down ns)).1 (λ s there. elim (Contains-cases stripe s [] there) [
   | inl same ↦
       subst (λ (r : StripeNo). is_harmed (outlook ten_nodes two_down (state_with outage two_down ns) r) ≡ false) same
-      (at_risk (level ten_nodes two_down stripe) (level ten_nodes (state_with outage two_down ns) stripe) (more_harm (outlook_with outage ns)) is)
+      (at_risk (level ten_nodes two_down stripe) (level ten_nodes (state_with outage two_down ns) stripe) (loses_seat two_down (state_with outage two_down ns) stripe) is)
   | inr none ↦ absurd (not-Contains-nil s none)
 ])
 
 -- and one in which it is unavailable is not
 unsafe-by : (outage : Outage) (ns : List NodeNo) → level ten_nodes (state_with outage two_down ns) stripe ≡ Unavailable
-    → is_safe (forecast ten_nodes two_down outage ns) ≡ false
-unsafe-by outage ns is = false_from_ne_true (is_safe (forecast ten_nodes two_down outage ns)) (λ safe.
+    → harms_none (forecast ten_nodes two_down outage ns) ≡ false
+unsafe-by outage ns is = false_from_ne_true (harms_none (forecast ten_nodes two_down outage ns)) (λ safe.
     let none = (safe-harmless ten_nodes two_down (state_with outage two_down ns)).0 safe stripe (Contains-here stripe []) in
     let hit : is_harmed (outlook_with outage ns) ≡ true =
-    unavailable (level ten_nodes two_down stripe) (level ten_nodes (state_with outage two_down ns) stripe) (more_harm (outlook_with outage ns)) before-is is in
+    unavailable (level ten_nodes two_down stripe) (level ten_nodes (state_with outage two_down ns) stripe) (loses_seat two_down (state_with outage two_down ns) stripe) before-is is in
     let both : true ≡ false = sym hit ∙ none in cc)
 
 module _ (outage : Outage) where
   abbrev IsForecast : List NodeNo → Bool → Type 0
-  IsForecast ns safe = is_safe (forecast ten_nodes (state_after ten_nodes three_entries) outage ns) ≡ safe
+  IsForecast ns safe = harms_none (forecast ten_nodes (state_after ten_nodes three_entries) outage ns) ≡ safe
 
-  told : (ns : List NodeNo) (safe : Bool) → is_safe (forecast ten_nodes two_down outage ns) ≡ safe → IsForecast ns safe
-  told ns safe is = subst (λ (st : State). is_safe (forecast ten_nodes st outage ns) ≡ safe) (sym state-is) is
+  told : (ns : List NodeNo) (safe : Bool) → harms_none (forecast ten_nodes two_down outage ns) ≡ safe → IsForecast ns safe
+  told ns safe is = subst (λ (st : State). harms_none (forecast ten_nodes st outage ns) ≡ safe) (sym state-is) is
 
   pub first-safe : IsForecast (node 0 ∷ []) true
   first-safe = told (node 0 ∷ []) true (safe-by outage (node 0 ∷ []) (first-is outage))

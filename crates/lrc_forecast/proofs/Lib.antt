@@ -3,6 +3,12 @@ pub mod LeaseLemmas
 pub mod OutlookLemmas
 pub mod SetLemmas
 pub mod RowLemmas
+pub mod UnrecoverableLemmas
+pub mod ReportLemmas
+pub mod ReturnLemmas
+pub mod LikeLemmas
+pub mod AwayLemmas
+pub mod FutureLemmas
 pub mod SafeLemmas
 pub mod RefusedLemmas
 pub mod ExampleLemmas

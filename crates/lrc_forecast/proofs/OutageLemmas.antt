@@ -39,12 +39,12 @@ and_true false = refl
 
 -- ---- which nodes are online
 
-gone-by : (gone draining : Bool) → is_gone (if gone then Gone else (if draining then Draining else Active)) ≡ gone
+pub gone-by : (gone draining : Bool) → is_gone (if gone then Gone else (if draining then Draining else Active)) ≡ gone
 gone-by true draining = refl
 gone-by false true = refl
 gone-by false false = refl
 
-added : (numbers : List NodeNo) (n m : NodeNo) → has_number (numbers ++ n ∷ []) m ≡ (has_number numbers m || same_node n m)
+pub added : (numbers : List NodeNo) (n m : NodeNo) → has_number (numbers ++ n ∷ []) m ≡ (has_number numbers m || same_node n m)
 added numbers n m =
     list_any-append (same_node m) numbers (n ∷ []) ∙ ap (λ (b : Bool). has_number numbers m || b) (or_false (eqb m.value n.value) ∙ test-sym m.value n.value)
 

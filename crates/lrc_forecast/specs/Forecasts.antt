@@ -1,23 +1,30 @@
 -- What would become of the stripes if nodes were stopped or lost.
-use Rattle.std.specs.Prelude.{◌≡◌, ◌⊎◌, ℕ, IsTrue, IsSome, Bool, true, false, not, ◌&&◌, ◌||◌, nat_eq, List, [], ◌∷◌, length, map, filter, flat_map, Option, option_to_list, is_none}
+use Rattle.std.specs.Prelude.{◌≡◌, ◌⊎◌, ℕ, IsTrue, IsFalse, Bool, true, false, not, ◌&&◌, ◌||◌, List, [], ◌∷◌, length, map, filter, flat_map, All, Contains, Option, option_map, option_to_list, is_none}
 use Rattle.std.specs.List.{list_any}
 use Rattle.std.specs.Option.{option_map_or}
 use Rattle.lrc_code.specs.declared.codes.Code.TheVariants.{Wide}
 use Rattle.lrc_code.specs.declared.numbers.StripeNo.{StripeNo}
 use Rattle.lrc_code.specs.declared.numbers.NodeNo.{NodeNo}
 use Rattle.lrc_code.specs.declared.numbers.Fragment.{Fragment}
+use Rattle.lrc_code.specs.declared.numbers.SessionNo.{SessionNo}
 use Rattle.lrc_code.specs.Codes.{has_fragment, fragments}
 use Rattle.lrc_code.specs.Losses.{FragmentSet, bits_of}
 use Rattle.lrc_topology.specs.declared.NodeInfo.{NodeInfo}
 use Rattle.lrc_topology.specs.declared.seat.Seat.{Seat}
+use Rattle.lrc_topology.specs.declared.seat.Held.{Held}
 use Rattle.lrc_terms.specs.declared.lease.Lease.{Lease}
 use Rattle.lrc_terms.specs.declared.level.Level.{Level}
-use Rattle.lrc_terms.specs.declared.level.Level.TheVariants.{Whole, AtRisk, Unavailable, Lost}
+use Rattle.lrc_terms.specs.declared.level.Level.TheVariants.{Unavailable, Lost}
 use Rattle.lrc_terms.specs.Levels.{homes_of, is_whole}
+use Rattle.lrc_terms.specs.Modes.{is_gone}
+use Rattle.lrc_rules.specs.declared.command.Command.{Command}
+use Rattle.lrc_rules.specs.declared.command.Command.TheVariants.{Up, Upgraded, Done}
+use Rattle.lrc_rules.specs.declared.entry.Entry.{Entry}
 use Rattle.lrc_rules.specs.declared.node_command.NodeCommand.{NodeCommand}
 use Rattle.lrc_rules.specs.declared.node_command.NodeCommand.TheVariants as node
-use Rattle.lrc_rules.specs.States.{State, code_of, lease_of, has_number, missing, level}
+use Rattle.lrc_rules.specs.States.{State, code_of, seats_of, lease_of, has_number, mode_of, is_down, missing, level}
 use Rattle.lrc_rules.specs.Steps.{changed_on}
+use Rattle.lrc_rules.specs.Histories.{World, outcome_in, next_world}
 use Rattle.lrc_book.specs.Looks.{stripes_of}
 use Rattle.lrc_forecast.specs.declared.outlook.Outage.{Outage}
 use Rattle.lrc_forecast.specs.declared.outlook.Outage.TheVariants.{Stop, Lose}
@@ -61,6 +68,26 @@ stripe_leases st s = flat_map (λ f. option_to_list (lease_of st s f)) (fragment
 abbrev pub ended_leases : State → State → StripeNo → List Lease
 ended_leases st after s = filter (λ l. is_none (lease_of after l.stripe l.fragment)) (stripe_leases st s)
 
+-- ---- seats that go away
+
+-- the node goes away from the first state to the second: it is gone or down in the second, and was not so in the first
+abbrev pub goes_away : State → State → NodeNo → Bool
+goes_away st after n = (is_gone (mode_of after n) && not (is_gone (mode_of st n))) || (is_down after n && not (is_down st n))
+
+-- the seat is on such a node
+abbrev pub is_taken_away : State → State → Option Seat → Bool
+is_taken_away st after seat = option_map_or (λ t. goes_away st after t.node) seat false
+
+-- the target of the live lease of a fragment
+abbrev pub target_of : State → StripeNo → Fragment → Option Seat
+target_of st s f = option_map (λ l. l.target) (lease_of st s f)
+
+-- a seat of the stripe goes away: the home of a fragment, or the target of its live lease
+unfoldable pub loses_seat : State → State → StripeNo → Bool
+loses_seat st after s = list_any (λ f. is_taken_away st after (homes_of st.homes s f.value) || is_taken_away st after (target_of st s f)) (fragments Wide)
+
+-- ---- forecasts
+
 -- what becomes of the stripe
 abbrev pub outlook : List NodeInfo → State → State → StripeNo → Outlook
 outlook nodes st after s = record {
@@ -71,6 +98,7 @@ outlook nodes st after s = record {
   missing = record { bits = bits_of (code_of st s) (missing nodes after s) };
   newly_missing = record { bits = bits_of (code_of st s) (newly_missing nodes st after s) };
   leases_ended = length (ended_leases st after s);
+  loses_seat = loses_seat st after s;
 }
 
 -- the stripe is not whole in the state
@@ -93,23 +121,15 @@ is_unrecoverable Unavailable = true
 is_unrecoverable Lost = true
 is_unrecoverable _ = false
 
--- the levels are the same
-abbrev pub is_level : Level → Level → Bool
-is_level Whole Whole = true
-is_level (AtRisk m) (AtRisk n) = nat_eq m n
-is_level Unavailable Unavailable = true
-is_level Lost Lost = true
-is_level _ _ = false
-
--- The outage harms the stripe: it is unavailable or lost then, and had another level before, or a fragment of it is missing
--- then that was not, or a live lease of it has ended.
+-- The outage harms the stripe: it is not recoverable then, and it is recoverable now, or a seat of it goes away. What a return
+-- could bring back counts, so a seat on a node that is only upgrading goes away where the node stops, and one on a node that is
+-- down where the node is lost.
 abbrev pub is_harmed : Outlook → Bool
-is_harmed o =
-    is_unrecoverable o.after && (not (is_level o.before o.after) || (not (nat_eq o.newly_missing.bits 0) || not (nat_eq o.leases_ended 0)))
+is_harmed o = is_unrecoverable o.after && (not (is_unrecoverable o.before) || o.loses_seat)
 
 -- no stripe is harmed
-abbrev pub is_safe : List Outlook → Bool
-is_safe rows = not (list_any is_harmed rows)
+abbrev pub harms_none : List Outlook → Bool
+harms_none rows = not (list_any is_harmed rows)
 
 -- ---- in words
 
@@ -117,9 +137,36 @@ is_safe rows = not (list_any is_harmed rows)
 abbrev pub IsUnrecoverable : List NodeInfo → State → StripeNo → Type 0
 IsUnrecoverable nodes st s = (level nodes st s ≡ Unavailable) ⊎ (level nodes st s ≡ Lost)
 
--- From the first state to the second, a stripe loses nothing: it has the same level, each fragment that is missing was missing
--- before, and each with a live lease before has one.
-pub record LosesNothing (nodes : List NodeInfo) (st after : State) (s : StripeNo) : Type 0 where
-  pub level : level nodes after s ≡ level nodes st s
-  pub missing : (f : ℕ) → IsTrue (missing nodes after s f) → IsTrue (missing nodes st s f)
-  pub leases : (f : Fragment) → IsSome (lease_of st s f) → IsSome (lease_of after s f)
+-- each seat of the stripe, a home or the target of a live lease, is on a node that does not go away
+abbrev pub KeepsSeats : State → State → StripeNo → Type 0
+KeepsSeats st after s = (h : Held) → Contains (seats_of st) h → h.stripe ≡ s → IsFalse (goes_away st after h.seat.node)
+
+-- ---- what may come back
+
+-- the command tells of something that comes back: a node is up, an upgrade has ended, a repair is done
+abbrev pub is_return : Command → Bool
+is_return (Up n) = true
+is_return (Upgraded u) = true
+is_return (Done s f e) = true
+is_return _ = false
+
+-- a call: a session and its command
+abbrev pub Call : Type 0
+Call = SessionNo × Command
+
+-- all calls tell of something that comes back
+abbrev pub AreReturns : List Call → Type 0
+AreReturns calls = All (λ c. IsTrue (is_return c.1)) calls
+
+-- the entry of a call: its reply is that of the rules
+abbrev pub entry_of : List NodeInfo → World → Call → Entry
+entry_of nodes w c = record { session = c.0; command = c.1; reply = (outcome_in nodes w c.0 c.1).0 }
+
+-- the world after these calls
+abbrev pub world_with : List NodeInfo → World → List Call → World
+world_with nodes w [] = w
+world_with nodes w (c ∷ cs) = world_with nodes (next_world nodes w (entry_of nodes w c)) cs
+
+-- the state after these calls, made in this state after these entries
+abbrev pub state_after_calls : List NodeInfo → List Entry → State → List Call → State
+state_after_calls nodes past st calls = (world_with nodes (record { past = past; state = st }) calls).state

@@ -2,13 +2,14 @@ ghost use Rattle.std.specs.Prelude.{◌≡◌, true, List, IfOk, IfErr, length};
 ghost use Rattle.std.specs.List.{list_any};
 ghost use Rattle.lrc_code.specs.declared.fault.Fault.TheVariants as fault;
 ghost use Rattle.lrc_code.specs.declared.numbers.NodeNo.{NodeNo as AnyNode};
-ghost use Rattle.lrc_terms.specs.Leased.{AreOneEach};
 ghost use Rattle.lrc_rules.specs.States.{has_stripe};
+ghost use Rattle.lrc_rules.specs.Goodness.{AreSeated};
 ghost use Rattle.lrc_book.specs.Books.{state_of};
-ghost use Rattle.lrc_forecast.specs.Forecasts.{state_with, outlook, forecast, is_harmed, is_safe};
-ghost use Rattle.lrc_forecast.specs.Hits.{IsSetOf, HaveOneHome};
+ghost use Rattle.lrc_forecast.specs.Forecasts.{state_with, outlook, forecast, is_harmed, harms_none};
+ghost use Rattle.lrc_forecast.specs.Hits.{IsSetOf};
 
 use crate::hits::{NodeSet, fragments_on, joined, leases_on, set_of, without};
+use crate::seats::loses_seat;
 use crate::{Outage, Outlook};
 use lrc_book::{Book, homeless_of};
 use lrc_code::{Fault, NodeNo, StripeNo};
@@ -16,8 +17,9 @@ use lrc_homes::level_by;
 use std::alloc::Global;
 
 /// The stripes that would not be whole if this happened to all these nodes at once, in rising order; also those that
-/// are not whole now. A node that the store lacks changes nothing, nor does one that is named twice. A node that is
-/// offline already changes nothing where it stops, but where it is lost, its homes are lost too.
+/// are not whole now. A node that the store lacks changes nothing, nor does one that is named twice. A node that is down already
+/// changes nothing where it stops. One whose domain is upgrading then stays offline when the upgrade has ended. Where a node is
+/// lost, its homes are lost too, whether it is online or not.
 ///
 /// # Errors
 ///
@@ -31,7 +33,7 @@ pub fn forecast(
     ensures value { IfOk result (λ rows. rows.items ≡ forecast book.now.nodes (state_of book.now) outage nodes.now) }
     ensures err { IfErr result (λ e. e ≡ fault.OutOfMemory) }
 {
-    book.history(); // so that its contract tells that each fragment has one home and one lease at most
+    book.history(); // so that its contract tells that the seats are in order
     let stripes = book.stripes(alloc)?;
     let hit_nodes = set_of(nodes);
     let mut rows = Vec::new(alloc);
@@ -46,7 +48,7 @@ pub fn forecast(
 
 /// Whether no stripe is harmed.
 pub fn is_safe(rows: &[Outlook]) -> bool
-    ensures { result ≡ is_safe rows.now }
+    ensures { result ≡ harms_none rows.now }
 {
     !is_any_harmed(rows)
 }
@@ -61,8 +63,7 @@ fn is_any_harmed(rows: &[Outlook]) -> bool
 /// What becomes of a stripe that is there.
 fn outlook_of(book: &Book, stripe: StripeNo, outage: Outage, hit_nodes: &NodeSet) -> Outlook
     requires there { has_stripe (state_of book.now) stripe ≡ true }
-    requires single { HaveOneHome (state_of book.now) }
-    requires leased { AreOneEach (state_of book.now).leases }
+    requires seated { AreSeated book.now.nodes (state_of book.now) }
     requires long { length hit_nodes.now ≡ 65536 }
     ensures { (ns : List AnyNode) → IsSetOf ns hit_nodes.now
         → result ≡ outlook book.now.nodes (state_of book.now) (state_with outage (state_of book.now) ns) stripe }
@@ -89,5 +90,6 @@ fn outlook_of(book: &Book, stripe: StripeNo, outage: Outage, hit_nodes: &NodeSet
         missing,
         newly_missing: without(missing, missing_now),
         leases_ended,
+        loses_seat: loses_seat(book, outage, stripe, &homes, hit_nodes),
     }
 }

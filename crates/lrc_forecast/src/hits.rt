@@ -50,7 +50,7 @@ pub(crate) fn fragments_on(
 }
 
 /// Whether the home is on a node of the set.
-fn is_on(home: Option<Seat>, nodes: &NodeSet) -> bool
+pub(crate) fn is_on(home: Option<Seat>, nodes: &NodeSet) -> bool
     requires long { length nodes.now ≡ 65536 }
     ensures { result ≡ is_on_set nodes.now home }
 {

@@ -2,25 +2,27 @@
 
 pub mod alike;
 
-ghost use Rattle.std.specs.Prelude.{◌≡◌, ◌↔◌, ℕ, ◌||◌, IsTrue, IsFalse, List, [], ◌∷◌, Contains};
+ghost use Rattle.std.specs.Prelude.{◌≡◌, ◌↔◌, ℕ, not, ◌&&◌, ◌||◌, IsTrue, IsFalse, List, [], ◌∷◌, Contains};
 ghost use Rattle.lrc_code.specs.declared.numbers.StripeNo.{StripeNo};
 ghost use Rattle.lrc_code.specs.declared.numbers.NodeNo.{NodeNo};
 ghost use Rattle.lrc_code.specs.declared.numbers.SessionNo.{SessionNo};
 ghost use Rattle.lrc_topology.specs.declared.NodeInfo.{NodeInfo};
 ghost use Rattle.lrc_topology.specs.Nodes.{AreNodes};
+ghost use Rattle.lrc_topology.specs.declared.seat.Held.{Held};
 ghost use Rattle.lrc_terms.specs.declared.lease.Lease.{Lease};
 ghost use Rattle.lrc_terms.specs.Levels.{homes_of};
+ghost use Rattle.lrc_terms.specs.Modes.{is_gone};
 ghost use Rattle.lrc_rules.specs.declared.command.Command.TheVariants.{Down, Fail};
 ghost use Rattle.lrc_rules.specs.declared.reply.Reply.TheVariants.{Changed, Refused};
 ghost use Rattle.lrc_rules.specs.declared.refusal.Refusal.{Refusal};
 ghost use Rattle.lrc_rules.specs.declared.entry.Entry.{Entry};
-ghost use Rattle.lrc_rules.specs.States.{State, has_number, homeless, missing};
+ghost use Rattle.lrc_rules.specs.States.{State, seats_of, has_number, mode_of, is_down, homeless, missing};
 ghost use Rattle.lrc_rules.specs.Steps.{step};
 ghost use Rattle.lrc_rules.specs.Histories.{IsLegal, state_after};
 ghost use Rattle.lrc_rules.specs.Goodness.{AreSeated};
 ghost use Rattle.lrc_forecast.specs.declared.outlook.Outage.{Outage};
 ghost use Rattle.lrc_forecast.specs.declared.outlook.Outage.TheVariants.{Stop, Lose};
-ghost use Rattle.lrc_forecast.specs.Forecasts.{state_with, is_on_any, hit_in, HasSameLosses, ended_leases, forecast, is_safe, IsUnrecoverable, LosesNothing};
+ghost use Rattle.lrc_forecast.specs.Forecasts.{state_with, is_on_any, hit_in, HasSameLosses, ended_leases, goes_away, loses_seat, outlook, forecast, is_harmed, harms_none, IsUnrecoverable, KeepsSeats, Call, AreReturns, state_after_calls};
 
 /// Where the store takes the command `Down` or `Fail`, it comes to the state with the outage of this node. Where it
 /// refuses the command, each stripe has the same level, the same missing fragments and the same leases with the outage as
@@ -63,13 +65,35 @@ pub fn leases_end_in_words()
         ↔ (Contains st.leases l × ¬ (Contains (ended_leases st (state_with outage st ns) l.stripe) l)) }
 {}
 
-/// A forecast is safe exactly if each stripe of the store that is unavailable or lost with the outage loses nothing by it: it
-/// has the same level without, each fragment that is missing is missing without, and each that has a live lease without has
-/// one.
+/// A node that stops goes away if it is one of those named and is not down already, whatever upgrades. A node that is lost goes
+/// away if it is one of those named and is not gone already. A seat is never on a node that is gone, so a stripe loses a seat
+/// exactly if a home or a target of it is on a node that goes away.
+pub fn seats_go_away_in_words()
+    ensures stopped { (st : State) (ns : List NodeNo) (n : NodeNo) → goes_away st (state_with Stop st ns) n ≡ (has_number ns n && not (is_down st n)) }
+    ensures lost { (st : State) (ns : List NodeNo) (n : NodeNo) → goes_away st (state_with Lose st ns) n ≡ (has_number ns n && not (is_gone (mode_of st n))) }
+    ensures standing { (nodes : List NodeInfo) (st : State) (h : Held) → AreSeated nodes st → Contains (seats_of st) h → IsFalse (is_gone (mode_of st h.seat.node)) }
+    ensures seats { (nodes : List NodeInfo) (st after : State) (s : StripeNo) → AreSeated nodes st → IsFalse (loses_seat st after s) ↔ KeepsSeats st after s }
+{}
+
+/// An outage is safe exactly if each stripe of the store that is unavailable or lost with it is so without it, and keeps all
+/// its seats.
 pub fn safe_in_words()
     ensures { (nodes : List NodeInfo) (st : State) (outage : Outage) (ns : List NodeNo)
-        → IsTrue (is_safe (forecast nodes st outage ns))
-        ↔ ((s : StripeNo) → Contains st.stripes s → IsUnrecoverable nodes (state_with outage st ns) s → LosesNothing nodes st (state_with outage st ns) s) }
+        → AreSeated nodes st → IsTrue (harms_none (forecast nodes st outage ns))
+        ↔ ((s : StripeNo) → Contains st.stripes s → IsUnrecoverable nodes (state_with outage st ns) s
+        → IsUnrecoverable nodes st s × KeepsSeats st (state_with outage st ns) s) }
+{}
+
+/// What is safe stays so whatever comes back. Take a stripe that an outage does not harm, and any sequence of `up`, `upgraded` and
+/// `done`, by whatever sessions. With the outage the stripe is recoverable after the sequence exactly if it is so without the
+/// outage. If an outage is safe, this holds of every stripe of the store.
+pub fn no_return_makes_a_safe_outage_harmful()
+    ensures stripe { (nodes : List NodeInfo) (past more : List Entry) (st : State) (outage : Outage) (ns : List NodeNo) (calls : List Call) (s : StripeNo)
+        → AreSeated nodes st → AreReturns calls → IsFalse (is_harmed (outlook nodes st (state_with outage st ns) s))
+        → IsUnrecoverable nodes (state_after_calls nodes more (state_with outage st ns) calls) s ↔ IsUnrecoverable nodes (state_after_calls nodes past st calls) s }
+    ensures all { (nodes : List NodeInfo) (past more : List Entry) (st : State) (outage : Outage) (ns : List NodeNo) (calls : List Call) (s : StripeNo)
+        → AreSeated nodes st → AreReturns calls → IsTrue (harms_none (forecast nodes st outage ns)) → Contains st.stripes s
+        → IsUnrecoverable nodes (state_after_calls nodes more (state_with outage st ns) calls) s ↔ IsUnrecoverable nodes (state_after_calls nodes past st calls) s }
 {}
 
 /// The outage of one node can be safe, that of another node too, and the outage of both not: this holds of some nodes
@@ -77,7 +101,7 @@ pub fn safe_in_words()
 pub fn safe_alone_is_not_safe_together()
     ensures { (outage : Outage) → (nodes : List NodeInfo) × (history : List Entry) × (n : NodeNo) × (m : NodeNo)
         × AreNodes nodes × IsLegal nodes history
-        × IsTrue (is_safe (forecast nodes (state_after nodes history) outage (n ∷ [])))
-        × IsTrue (is_safe (forecast nodes (state_after nodes history) outage (m ∷ [])))
-        × IsFalse (is_safe (forecast nodes (state_after nodes history) outage (n ∷ m ∷ []))) }
+        × IsTrue (harms_none (forecast nodes (state_after nodes history) outage (n ∷ [])))
+        × IsTrue (harms_none (forecast nodes (state_after nodes history) outage (m ∷ [])))
+        × IsFalse (harms_none (forecast nodes (state_after nodes history) outage (n ∷ m ∷ []))) }
 {}

@@ -5,6 +5,7 @@ mod forecasts;
 mod hits;
 pub mod laws;
 mod outlook;
+mod seats;
 
 pub use forecasts::{forecast, is_safe};
 pub use outlook::{Outage, Outlook};

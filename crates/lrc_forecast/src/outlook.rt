@@ -1,5 +1,5 @@
 ghost use Rattle.std.specs.Prelude.{◌≡◌};
-ghost use Rattle.lrc_forecast.specs.Forecasts.{is_harmed};
+ghost use Rattle.lrc_forecast.specs.Forecasts.{is_unrecoverable, is_harmed};
 
 use lrc_book::Level;
 use lrc_code::{Code, LossMask, StripeNo};
@@ -28,19 +28,27 @@ pub struct Outlook {
     pub newly_missing: LossMask,
     /// How many live leases of the stripe end by the outage.
     pub leases_ended: u8,
+    /// Whether a seat of the stripe, a home or the target of a live lease, goes away by the outage: it is on one of the nodes,
+    /// and the node is lost, or stops and is not down now.
+    pub loses_seat: bool,
 }
 
 impl Outlook {
-    /// Whether the outage harms the stripe: it is unavailable or lost then, and has another level now, or a fragment of it
-    /// is missing then that is not missing now, or a live lease of it ends.
+    /// Whether the outage harms the stripe: it is unavailable or lost then, and is whole or at risk now, or a seat of it goes
+    /// away. A stripe that is not harmed comes back with the outage exactly if it comes back without it.
     pub fn is_harmed(self) -> bool
         ensures { result ≡ is_harmed self }
     {
-        match self.after {
-            Level::Unavailable | Level::Lost => self.before != self.after
-                || self.newly_missing.bits() != 0
-                || self.leases_ended != 0,
-            Level::Whole | Level::AtRisk(_) => false,
-        }
+        is_unrecoverable(self.after) && (!is_unrecoverable(self.before) || self.loses_seat)
+    }
+}
+
+/// Whether more fragments are missing than can be rebuilt from the others.
+fn is_unrecoverable(level: Level) -> bool
+    ensures { result ≡ is_unrecoverable level }
+{
+    match level {
+        Level::Unavailable | Level::Lost => true,
+        Level::Whole | Level::AtRisk(_) => false,
     }
 }

@@ -14,8 +14,7 @@ use Rattle.lrc_book.specs.Looks.{homes_on}
 use Rattle.lrc_text.specs.Tables.{row_line, mode_text, online_text}
 use Rattle.lrc_show.specs.declared.nodes.NodeFacts.{NodeFacts}
 use Rattle.lrc_show.specs.declared.stripe_facts.StripeFacts.{StripeFacts}
-use Rattle.lrc_forecast.specs.Forecasts.{is_level}
-use Rattle.lrc_show.specs.Shown.{value_row}
+use Rattle.lrc_show.specs.Shown.{value_row, is_level}
 
 -- ---- stripes
 

@@ -24,7 +24,7 @@ use Rattle.lrc_rules.specs.Repairs.{needs, kind, is_safe, is_beyond_repair}
 use Rattle.lrc_rules.specs.Urgency.{work, is_grantable}
 use Rattle.lrc_book.specs.Looks.{stripes_of, homes_on}
 use Rattle.lrc_forecast.specs.declared.outlook.Outlook.{Outlook}
-use Rattle.lrc_forecast.specs.Forecasts.{is_level, is_harmed}
+use Rattle.lrc_forecast.specs.Forecasts.{is_harmed}
 use Rattle.lrc_text.specs.Tables.{row_line, level_text, margin_field, mask_field, mode_text, online_text}
 use Rattle.lrc_text.specs.Texts.{seat_text, spaced}
 use Rattle.lrc_show.specs.declared.view.View.{View}
@@ -170,6 +170,14 @@ abbrev pub work_table : List NodeInfo → State → List ℕ
 work_table nodes st = codes "stripe,fragment,kind,sources,reads,standing,holder,epoch\n" ++ flat_map (work_rows nodes st) (work nodes st)
 
 -- ---- status
+
+-- the levels are the same
+abbrev pub is_level : Level → Level → Bool
+is_level Whole Whole = true
+is_level (AtRisk m) (AtRisk n) = nat_eq m n
+is_level Unavailable Unavailable = true
+is_level Lost Lost = true
+is_level _ _ = false
 
 -- how many stripes have this level
 abbrev pub level_count : List NodeInfo → State → Level → ℕ

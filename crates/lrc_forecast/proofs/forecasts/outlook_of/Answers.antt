@@ -14,6 +14,7 @@ use Rattle.lrc_book.proofs.StripeLemmas.{code-told, level-told, mask-told, homes
 use Rattle.lrc_forecast.specs.declared.outlook.Outage.{Outage}
 use Rattle.lrc_forecast.specs.Forecasts.{state_with, ended_leases}
 use Rattle.lrc_forecast.proofs.LeaseLemmas.{ended-stopped, ended-count}
+use Rattle.lrc_forecast.proofs.AwayLemmas.{loses-as}
 use Rattle.lrc_forecast.proofs.OutlookLemmas.{stopped-set, lost-set, outlook-told}
 use Rattle.lrc_forecast.proofs.forecasts.outlook_of.Goals as goal
 use Rattle.lrc_forecast.proofs.forecasts.outlook_of.Goals.{in-Stop, in-Lose, in-Stop-outage, in-Lose-outage}
@@ -48,20 +49,20 @@ returns c = λ ns are.
     let bared : (f : ℕ) → bits_set c.match-outage.homeless.bits f ≡ homeless (state_with c.args.outage st ns) s f = elim c.match-outage.branch [
       | in-Stop w ↦ λ f.
           ap (λ (m : LossMask). bits_set m.bits f) w.homeless-is
-          ∙ stopped-set nodes st ns s c.args.hit_nodes.now are code own hit now bare hits misses unhomed c.requires.single f
+          ∙ stopped-set nodes st ns s c.args.hit_nodes.now are code own hit now bare hits misses unhomed c.requires.seated.one_home f
           ∙ ap (λ (o : Outage). homeless (state_with o st ns) s f) (sym w.in-Stop.is)
       | in-Lose w ↦ λ f.
           ap (λ (m : LossMask). bits_set m.bits f) w.homeless-is
-          ∙ lost-set nodes st ns s c.args.hit_nodes.now are code own hit now bare hits misses unhomed c.requires.single w.joined-homeless.result.bits w.joined-homeless.ensures f
+          ∙ lost-set nodes st ns s c.args.hit_nodes.now are code own hit now bare hits misses unhomed c.requires.seated.one_home w.joined-homeless.result.bits w.joined-homeless.ensures f
           ∙ ap (λ (o : Outage). homeless (state_with o st ns) s f) (sym w.in-Lose.is)
     ] in
     let ended : c.match-outage-2.leases_ended ≡ length (ended_leases st (state_with c.args.outage st ns) s) = elim c.match-outage-2.branch [
       | in-Stop-outage w ↦
           w.leases_ended-is ∙ sym (ap (λ (ls : List Lease). length ls) (ended-stopped st ns s)) ∙ ap (λ (o : Outage). length (ended_leases st (state_with o st ns) s)) (sym w.in-Stop-outage.is)
       | in-Lose-outage w ↦
-          w.leases_ended-is ∙ w.leases_on-leases_ended.ensures (homes_of st.homes s) homes ∙ ended-count st ns c.requires.single c.requires.leased s c.args.hit_nodes.now are
+          w.leases_ended-is ∙ w.leases_on-leases_ended.ensures (homes_of st.homes s) homes ∙ ended-count st ns c.requires.seated.one_home c.requires.seated.one_lease s c.args.hit_nodes.now are
           ∙ ap (λ (o : Outage). length (ended_leases st (state_with o st ns) s)) (sym w.in-Lose-outage.is)
     ] in
-    outlook-told nodes st ns s c.args.hit_nodes.now are code own hit now bare hits misses unhomed c.requires.single c.args.outage c.joined-missing.result.bits
-    c.match-outage.homeless.bits c.without.result.bits c.match-outage-2.leases_ended c.unwrap.result c.level_by.result first c.joined-missing.ensures bared c.level_by.ensures
-    c.without.ensures ended
+    outlook-told nodes st ns s c.args.hit_nodes.now are code own hit now bare hits misses unhomed c.requires.seated.one_home c.args.outage c.joined-missing.result.bits
+    c.match-outage.homeless.bits c.without.result.bits c.match-outage-2.leases_ended c.loses_seat.result c.unwrap.result c.level_by.result first c.joined-missing.ensures bared c.level_by.ensures
+    c.without.ensures ended (c.loses_seat.ensures (homes_of st.homes s) homes ∙ loses-as nodes st c.requires.seated ns c.args.hit_nodes.now are c.args.outage s)
