@@ -7,5 +7,6 @@ pub mod ImagedLemmas
 pub mod BeginLemmas
 pub mod LookLemmas
 pub mod AlikeLookLemmas
+pub mod ShownLemmas
 pub mod StripeLemmas
 pub mod MaskLemmas
