@@ -22,7 +22,7 @@ use Rattle.lrc_rules.proofs.AlikeReadLemmas.{alike-code, alike-mode, alike-down,
 use Rattle.lrc_book.proofs.AlikeLookLemmas.{alike-looks}
 use Rattle.lrc_forecast.specs.declared.outlook.Outage.{Outage}
 use Rattle.lrc_forecast.specs.declared.outlook.Outage.TheVariants.{Stop, Lose}
-use Rattle.lrc_forecast.specs.Forecasts.{state_with, is_on_any, hit_in, stripe_leases, goes_away, loses_seat, outlook, forecast}
+use Rattle.lrc_forecast.specs.Forecasts.{state_with, is_on_any, hit_in, live_leases, goes_away, loses_seat, outlook, forecast}
 use Rattle.lrc_forecast.proofs.AwayLemmas.{goes-stopped, goes-lost}
 use Rattle.lrc_forecast.proofs.LeaseLemmas.{is_hit, lease-stopped, lease-lost}
 use Rattle.lrc_forecast.proofs.OutageLemmas.{code-after, missing-after, homeless-stopped, homeless-lost}
@@ -99,7 +99,7 @@ module _ (nodes : List NodeInfo) (w v : State) (alike : AreAlike w v) (seated : 
         let missing = missing-then outage ns in λ i s. level_by (code i s) (homeless i s) (missing i s)
 
     same-outlook : outlook nodes w (state_with outage w ns) ≡ outlook nodes v (state_with outage v ns)
-    unfolding stripe_leases loses_seat
+    unfolding live_leases loses_seat
     same-outlook =
         let code = alike-code w v alike in
         let before = same-level in

@@ -34,7 +34,7 @@ use Rattle.lrc_rules.proofs.StateLemmas.{held_on}
 use Rattle.lrc_rules.proofs.StateLemmas as state
 use Rattle.lrc_forecast.specs.declared.outlook.Outage.{Outage}
 use Rattle.lrc_forecast.specs.declared.outlook.Outage.TheVariants.{Stop, Lose}
-use Rattle.lrc_forecast.specs.Forecasts.{report_of, state_with, goes_away, is_taken_away, target_of, loses_seat, KeepsSeats}
+use Rattle.lrc_forecast.specs.Forecasts.{report_of, state_with, goes_away, is_taken_away, lease_target, loses_seat, KeepsSeats}
 use Rattle.lrc_forecast.specs.Hits.{IsSetOf, would_go, is_on_going, has_going_seat}
 use Rattle.lrc_forecast.proofs.OutageLemmas.{gone-by, added, or_false}
 
@@ -145,7 +145,7 @@ module _ (nodes : List NodeInfo) (st : State) (seated : AreSeated nodes st) wher
 
   module _ (after : State) (s : StripeNo) where
     abbrev test : Fragment → Bool
-    test f = is_taken_away st after (homes_of st.homes s f.value) || is_taken_away st after (target_of st s f)
+    test f = is_taken_away st after (homes_of st.homes s f.value) || is_taken_away st after (lease_target st s f)
 
     fragment-listed : (f : Fragment) → Contains (fragments Wide) f
     fragment-listed f = code-fragments Wide f (lt-ltb f.value 16 f.in_range)
@@ -228,5 +228,5 @@ module _ (nodes : List NodeInfo) (st : State) (seated : AreSeated nodes st) wher
       target-stands f None is seat same = absurd (cc)
       target-stands f (Some l) is seat same = subst (IsStanding nodes st) (same_Some l.target seat same) (stands (held_by l) (target-held s f l is))
 
-      target : (f : Fragment) → is_on_going set outage nodes st (target_of st s f) ≡ is_taken_away st (state_with outage st ns) (target_of st s f)
-      target f = going-as outage (target_of st s f) (target-stands f (lease_of st s f) refl)
+      target : (f : Fragment) → is_on_going set outage nodes st (lease_target st s f) ≡ is_taken_away st (state_with outage st ns) (lease_target st s f)
+      target f = going-as outage (lease_target st s f) (target-stands f (lease_of st s f) refl)

@@ -28,7 +28,7 @@ use Rattle.lrc_rules.specs.Goodness.{AreSeated}
 use Rattle.lrc_rules.proofs.AlikeListLemmas.{flat-member, member-flat}
 use Rattle.lrc_rules.proofs.LookUpLemmas.{is_of, seat_in, test-sym}
 use Rattle.lrc_rules.proofs.MemberLemmas.{AllPairs-head, AllPairs-tail, list_any-All, no-member, filter-member, member-filter, Contains-here, not-Contains-nil, Contains-cases}
-use Rattle.lrc_forecast.specs.Forecasts.{report_of, state_with, is_on_any, stripe_leases, ended_leases}
+use Rattle.lrc_forecast.specs.Forecasts.{report_of, state_with, is_on_any, live_leases, ended_leases}
 use Rattle.lrc_forecast.specs.Hits.{IsSetOf, HaveOneHome, is_on_set, has_lease_on_set}
 use Rattle.lrc_forecast.specs.declared.outlook.Outage.{Outage}
 use Rattle.lrc_forecast.specs.declared.outlook.Outage.TheVariants.{Stop, Lose}
@@ -182,7 +182,7 @@ module _ (st : State) (ns : List NodeNo) (single : HaveOneHome st) (one : AreOne
   -- as a walk over the fragments counts them
   pub ended-count : (s : StripeNo) (set : List Bool) → IsSetOf ns set
       → count_by (has_lease_on_set set st s (homes_of st.homes s)) (fragments Wide) ≡ length (ended_leases st (state_with Lose st ns) s)
-  unfolding stripe_leases
+  unfolding live_leases
   ended-count s set are =
       (λ i. count_by (λ f. same f i) (fragments Wide)) ∙ sym (count-flat (lease_of st s) (λ l. is_none (lease_of (state_with Lose st ns) l.stripe l.fragment)) (fragments Wide))
     where
@@ -209,16 +209,16 @@ listed None x here = absurd (not-Contains-nil x here)
 listed (Some y) x here = elim (Contains-cases y x [] here) [ inl same ↦ ap (λ (z : _). Some z) same | inr none ↦ absurd (not-Contains-nil x none) ]
 
 module _ (st : State) (s : StripeNo) (l : Lease) where
-  stripe-lease : Contains (stripe_leases st s) l → (lease_of st l.stripe l.fragment ≡ Some l) × (l.stripe ≡ s)
-  unfolding stripe_leases
+  stripe-lease : Contains (live_leases st s) l → (lease_of st l.stripe l.fragment ≡ Some l) × (l.stripe ≡ s)
+  unfolding live_leases
   stripe-lease here =
       let m = flat-member (λ (f : Fragment). option_to_list (lease_of st s f)) (fragments Wide) l here in
       let is : lease_of st s m.0 ≡ Some l = listed (lease_of st s m.0) l m.2 in
       let own = own-lease st s m.0 l is in
       (subst (λ (r : StripeNo). lease_of st r l.fragment ≡ Some l) (sym own.0) (subst (λ (g : Fragment). lease_of st s g ≡ Some l) (sym own.1) is), own.0)
 
-  lease-stripe : lease_of st s l.fragment ≡ Some l → Contains (stripe_leases st s) l
-  unfolding stripe_leases
+  lease-stripe : lease_of st s l.fragment ≡ Some l → Contains (live_leases st s) l
+  unfolding live_leases
   lease-stripe is =
       member-flat (λ (f : Fragment). option_to_list (lease_of st s f)) (fragments Wide) l.fragment l (code-fragments Wide l.fragment (lt-ltb l.fragment.value 16 l.fragment.in_range))
       (subst (λ (o : Option Lease). Contains (option_to_list o) l) (sym is) (Contains-here l []))
@@ -228,7 +228,7 @@ none-of o x is none = let both : false ≡ true = ap is_none (sym is) ∙ none i
 
 pub ended-stopped : (st : State) (ns : List NodeNo) (s : StripeNo) → ended_leases st (state_with Stop st ns) s ≡ []
 ended-stopped st ns s = no-member (ended_leases st (state_with Stop st ns) s) (λ l here.
-    let m = filter-member (λ (k : Lease). is_none (lease_of (state_with Stop st ns) k.stripe k.fragment)) (stripe_leases st s) l here in
+    let m = filter-member (λ (k : Lease). is_none (lease_of (state_with Stop st ns) k.stripe k.fragment)) (live_leases st s) l here in
     none-of (lease_of (state_with Stop st ns) l.stripe l.fragment) l (lease-stopped st ns l.stripe l.fragment ∙ (stripe-lease st s l m.0).0) m.1)
 
 -- none ends exactly where each fragment with a lease has one then
@@ -246,14 +246,14 @@ ended-none st after s = (stays, none) where
         let gone : lease_of after l.stripe l.fragment ≡ None =
         subst (λ (r : StripeNo). lease_of after r l.fragment ≡ None) (sym own.0) (subst (λ (g : Fragment). lease_of after s g ≡ None) (sym own.1) then) in
         let among : Contains (ended_leases st after s) l =
-        member-filter (λ (k : Lease). is_none (lease_of after k.stripe k.fragment)) (stripe_leases st s) l here (ap is_none gone) in
+        member-filter (λ (k : Lease). is_none (lease_of after k.stripe k.fragment)) (live_leases st s) l here (ap is_none gone) in
         let count = among.1 in
         let none : length (ended_leases st after s) ≡ 0 = eqb-true (length (ended_leases st after s)) 0 zero in
         absurd (omega (arith, count, none))
 
   none : ((f : Fragment) → is_some (lease_of st s f) ≡ true → is_some (lease_of after s f) ≡ true) → nat_eq (length (ended_leases st after s)) 0 ≡ true
   none each = ap (λ (ls : List Lease). nat_eq (length ls) 0) (no-member (ended_leases st after s) (λ l here.
-      let m = filter-member (λ (k : Lease). is_none (lease_of after k.stripe k.fragment)) (stripe_leases st s) l here in
+      let m = filter-member (λ (k : Lease). is_none (lease_of after k.stripe k.fragment)) (live_leases st s) l here in
       let was = stripe-lease st s l m.0 in
       let there = each l.fragment (subst (λ (r : StripeNo). is_some (lease_of st r l.fragment) ≡ true) was.1 (ap is_some was.0)) in
       let still : is_some (lease_of after l.stripe l.fragment) ≡ true = subst (λ (r : StripeNo). is_some (lease_of after r l.fragment) ≡ true) (sym was.1) there in
@@ -272,7 +272,7 @@ module _ (nodes : List NodeInfo) (st : State) (ns : List NodeNo) (l : Lease) (se
     told : Contains (ended_leases st (state_with Lose st ns) s) l
         → Contains st.leases l × (l.stripe ≡ s) × IsTrue (has_number ns l.target.node || is_on_any ns (homes_of st.homes s l.fragment.value))
     told here =
-        let m = filter-member (λ (k : Lease). is_none (lease_of (state_with Lose st ns) k.stripe k.fragment)) (stripe_leases st s) l here in
+        let m = filter-member (λ (k : Lease). is_none (lease_of (state_with Lose st ns) k.stripe k.fragment)) (live_leases st s) l here in
         let was = stripe-lease st s l m.0 in
         let hit = sym (lost-lease st ns l seated.one_home seated.one_lease was.0) ∙ m.1 in
         (leases_in-contains st.leases l.stripe l.fragment.value l was.0, was.1, subst (λ (r : StripeNo). is_hit ns l.target (homes_of st.homes r l.fragment.value) ≡ true) was.1 hit)
@@ -283,7 +283,7 @@ module _ (nodes : List NodeInfo) (st : State) (ns : List NodeNo) (l : Lease) (se
         let is = contains-leases_in st.leases l seated.one_lease live in
         let here = lease-stripe st s l (subst (λ (r : StripeNo). lease_of st r l.fragment ≡ Some l) own is) in
         let ends = lost-lease st ns l seated.one_home seated.one_lease is ∙ subst (λ (r : StripeNo). is_hit ns l.target (homes_of st.homes r l.fragment.value) ≡ true) (sym own) hit in
-        member-filter (λ (k : Lease). is_none (lease_of (state_with Lose st ns) k.stripe k.fragment)) (stripe_leases st s) l here ends
+        member-filter (λ (k : Lease). is_none (lease_of (state_with Lose st ns) k.stripe k.fragment)) (live_leases st s) l here ends
 
   pub stays-told : (outage : Outage) → Contains (state_with outage st ns).leases l
       ↔ (Contains st.leases l × ¬ (Contains (ended_leases st (state_with outage st ns) l.stripe) l))
@@ -300,7 +300,7 @@ module _ (nodes : List NodeInfo) (st : State) (ns : List NodeNo) (l : Lease) (se
         let kept = filter-some (λ k. not (is_lease_hit ns st k)) (lease_of st l.stripe l.fragment) l (sym (lease-lost st ns l.stripe l.fragment seated.one_home seated.one_lease) ∙ found here) in (
           leases_in-contains st.leases l.stripe l.fragment.value l kept,
           λ ended.
-              let m = filter-member (λ (k : Lease). is_none (lease_of (state_with Lose st ns) k.stripe k.fragment)) (stripe_leases st l.stripe) l ended in
+              let m = filter-member (λ (k : Lease). is_none (lease_of (state_with Lose st ns) k.stripe k.fragment)) (live_leases st l.stripe) l ended in
               none-of (lease_of (state_with Lose st ns) l.stripe l.fragment) l (found here) m.1,
         )
 

@@ -61,12 +61,12 @@ abbrev pub newly_missing : List NodeInfo → State → State → StripeNo → Fr
 newly_missing nodes st after s f = missing nodes after s f && not (missing nodes st s f)
 
 -- the live leases of a stripe, in rising order of fragment
-unfoldable pub stripe_leases : State → StripeNo → List Lease
-stripe_leases st s = flat_map (λ f. option_to_list (lease_of st s f)) (fragments Wide)
+unfoldable pub live_leases : State → StripeNo → List Lease
+live_leases st s = flat_map (λ f. option_to_list (lease_of st s f)) (fragments Wide)
 
 -- those of the first state whose fragments have no live lease in the second
 abbrev pub ended_leases : State → State → StripeNo → List Lease
-ended_leases st after s = filter (λ l. is_none (lease_of after l.stripe l.fragment)) (stripe_leases st s)
+ended_leases st after s = filter (λ l. is_none (lease_of after l.stripe l.fragment)) (live_leases st s)
 
 -- ---- seats that go away
 
@@ -79,12 +79,12 @@ abbrev pub is_taken_away : State → State → Option Seat → Bool
 is_taken_away st after seat = option_map_or (λ t. goes_away st after t.node) seat false
 
 -- the target of the live lease of a fragment
-abbrev pub target_of : State → StripeNo → Fragment → Option Seat
-target_of st s f = option_map (λ l. l.target) (lease_of st s f)
+abbrev pub lease_target : State → StripeNo → Fragment → Option Seat
+lease_target st s f = option_map (λ l. l.target) (lease_of st s f)
 
 -- a seat of the stripe goes away: the home of a fragment, or the target of its live lease
 unfoldable pub loses_seat : State → State → StripeNo → Bool
-loses_seat st after s = list_any (λ f. is_taken_away st after (homes_of st.homes s f.value) || is_taken_away st after (target_of st s f)) (fragments Wide)
+loses_seat st after s = list_any (λ f. is_taken_away st after (homes_of st.homes s f.value) || is_taken_away st after (lease_target st s f)) (fragments Wide)
 
 -- ---- forecasts
 

@@ -12,7 +12,7 @@ use Rattle.lrc_rules.specs.States.{State, has_number, lease_of}
 use Rattle.lrc_book.specs.Looks.{down_shown}
 use Rattle.lrc_forecast.specs.declared.outlook.Outage.{Outage}
 use Rattle.lrc_forecast.specs.declared.outlook.Outage.TheVariants.{Stop, Lose}
-use Rattle.lrc_forecast.specs.Forecasts.{target_of}
+use Rattle.lrc_forecast.specs.Forecasts.{lease_target}
 
 -- the set, by node number, has these nodes and no others
 abbrev pub IsSetOf : List NodeNo → List Bool → Type 0
@@ -41,4 +41,4 @@ is_on_going set outage nodes st seat = option_map_or (λ t. get_or set t.node.va
 
 -- the home of the fragment or the target of its live lease is on such a node
 abbrev pub has_going_seat : List Bool → Outage → List NodeInfo → State → StripeNo → Homes → Fragment → Bool
-has_going_seat set outage nodes st s of f = is_on_going set outage nodes st (of f.value) || is_on_going set outage nodes st (target_of st s f)
+has_going_seat set outage nodes st s of f = is_on_going set outage nodes st (of f.value) || is_on_going set outage nodes st (lease_target st s f)

@@ -6,7 +6,7 @@ ghost use Rattle.lrc_code.specs.declared.codes.Code.TheVariants.{Wide};
 ghost use Rattle.lrc_code.specs.Codes.{fragments};
 ghost use Rattle.lrc_terms.specs.Levels.{Homes};
 ghost use Rattle.lrc_book.specs.Books.{state_of};
-ghost use Rattle.lrc_forecast.specs.Forecasts.{target_of};
+ghost use Rattle.lrc_forecast.specs.Forecasts.{lease_target};
 ghost use Rattle.lrc_forecast.specs.Hits.{would_go, is_on_going, has_going_seat};
 
 use crate::Outage;
@@ -34,7 +34,7 @@ pub(crate) fn loses_seat(
 
 /// The target of the live lease of a fragment.
 fn target(book: &Book, stripe: StripeNo, fragment: Fragment) -> Option<Seat>
-    ensures { result ≡ target_of (state_of book.now) stripe fragment }
+    ensures { result ≡ lease_target (state_of book.now) stripe fragment }
 {
     book.lease(stripe, fragment).map(|lease| lease.target)
 }
