@@ -1,5 +1,5 @@
 -- The counters of grants, as entries are added.
-use Rattle.std.proofs.Common.{[], ◌≡◌, ℕ, ◌+◌, ◌<◌, ◌≤◌, cond, Bool, false, List, ◌∷◌, ◌++◌, length, Option, arith, sym, ap, ◌∙◌}
+use Rattle.std.proofs.Common.{[], ◌≡◌, ℕ, ◌+◌, ◌<◌, ◌≤◌, cond, Bool, false, List, ◌∷◌, ◌++◌, length, arith, sym, ap, ◌∙◌}
 use Rattle.std.proofs.lemmas.List.Sums.{count_by-le-length, sum_by-append}
 use Rattle.lrc_store.specs.declared.cursor.RepairCursor.{RepairCursor}
 use Rattle.lrc_code.specs.declared.numbers.StripeNo.{StripeNo}

@@ -1,6 +1,5 @@
 -- What is so of a step that grants a lease, by whichever command it was asked for.
-use Rattle.std.proofs.Common.{[], ◌≡◌, ℕ, ◌<◌, inl, inr, List, ◌∷◌, ◌++◌, length, Option, sym, ap, ◌∙◌, subst}
-use Rattle.lrc_code.specs.declared.numbers.StripeNo.{StripeNo}
+use Rattle.std.proofs.Common.{[], ◌≡◌, ℕ, ◌<◌, inl, inr, List, ◌∷◌, ◌++◌, length, sym, ap, ◌∙◌, subst}
 use Rattle.lrc_code.specs.declared.numbers.SessionNo.{SessionNo}
 use Rattle.lrc_topology.specs.declared.NodeInfo.{NodeInfo}
 use Rattle.lrc_terms.specs.declared.lease.Lease.{Lease as LeaseRecord}

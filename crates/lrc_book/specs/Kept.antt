@@ -1,7 +1,6 @@
 -- Internal: no public clause reaches these definitions.
 -- What a book keeps of its history.
-use Rattle.std.specs.Prelude.{ℕ, ◌≤◌, ◌++◌, length, List, Option}
-use Rattle.lrc_code.specs.declared.numbers.StripeNo.{StripeNo}
+use Rattle.std.specs.Prelude.{ℕ, ◌≤◌, ◌++◌, length, List}
 use Rattle.lrc_store.specs.declared.store.Store.{Store}
 use Rattle.lrc_store.specs.Stores.{IsOf, AreGrantsOf}
 use Rattle.lrc_rules.specs.declared.entry.Entry.{Entry}

@@ -27,7 +27,6 @@ impl Book {
     /// # Errors
     ///
     /// Only `Fault::HistoryFull`, where the history has as many entries as its limit.
-    #[tactic(auto, using(crate::proofs::ShownLemmas::changes_these))]
     pub fn decide(&self, session: SessionNo, command: Command) -> Result<Entry, Fault>
         ensures asked { IfOk result (λ e. (e.session ≡ session) × (e.command ≡ command)) }
         ensures step { IfOk result (λ e. IsStep self.now e) }

@@ -1,6 +1,6 @@
 -- A store in which two outages are each safe, and both together are not. It has a narrow stripe on ten nodes, the last
 -- two of which are down, and with them the global parities.
-use Rattle.std.proofs.Common.{◌≡◌, ℕ, ◌<◌, ◌&&◌, ◌||◌, Bool, true, false, not, nat_eq, List, [], ◌∷◌, get_or, map, refl, sym, ap, ◌∙◌, subst, inl, inr, arith, lit<, lit≤, zero-add}
+use Rattle.std.proofs.Common.{◌≡◌, ℕ, ◌<◌, ◌&&◌, ◌||◌, Bool, true, false, not, List, [], ◌∷◌, get_or, map, refl, sym, ap, ◌∙◌, subst, inl, inr, arith, lit<, lit≤, zero-add}
 use Rattle.std.specs.List.{range_with_len}
 use Rattle.std.proofs.lemmas.Bool.{false_from_ne_true}
 use Rattle.std.proofs.lemmas.List.{get_or-map}
@@ -62,16 +62,16 @@ are-nodes = record {
   ranges = omega arith;
 }
 
-abbrev stripe : StripeNo
+abbrev pub stripe : StripeNo
 stripe = record { value = 0; in_range = lit< tt }
 
-abbrev session : SessionNo
+abbrev pub session : SessionNo
 session = record { value = 1; in_range = (lit≤ tt, lit≤ tt) }
 
-abbrev seats : List Seat
+abbrev pub seats : List Seat
 seats = map (λ k. record { node = node k; slot = 0 }) (range_with_len 0 10)
 
-abbrev entry : Command → Reply → Entry
+abbrev pub entry : Command → Reply → Entry
 entry c r = record { session = session; command = c; reply = r }
 
 abbrev pub three_entries : List Entry

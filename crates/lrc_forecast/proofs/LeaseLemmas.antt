@@ -1,5 +1,5 @@
 -- The leases that end when nodes are stopped or lost.
-use Rattle.std.proofs.Common.{arith, ◌≡◌, ◌≢◌, ◌↔◌, ℕ, ◌+◌, ◌++◌, nat_eq, ◌&&◌, ◌||◌, Bool, true, false, not, cond, List, [], ◌∷◌, length, filter, flat_map, find, Option, Some, None, is_none, is_some, IsTrue, refl, sym, ap, ◌∙◌, subst, inl, inr}
+use Rattle.std.proofs.Common.{arith, ◌≡◌, ◌↔◌, ◌+◌, ◌++◌, nat_eq, ◌&&◌, ◌||◌, Bool, true, false, not, cond, List, [], ◌∷◌, length, filter, flat_map, find, Option, Some, None, is_none, is_some, IsTrue, refl, sym, ap, ◌∙◌, subst, inl, inr}
 use Rattle.std.specs.Prelude.{count_by, option_to_list}
 use Rattle.std.specs.List.{All, AllPairs, Contains, list_any}
 use Rattle.std.specs.Option.{option_map_or}
@@ -23,7 +23,7 @@ use Rattle.lrc_terms.specs.Leased.{AreOneEach, is_target_on}
 use Rattle.lrc_terms.proofs.CodeListLemmas.{code-fragments}
 use Rattle.lrc_terms.proofs.LeaseLemmas.{leases_in-own, leases_in-contains, contains-leases_in, one_each-filter, leases_in-filter}
 use Rattle.lrc_rules.specs.States.{State, has_number, lease_of}
-use Rattle.lrc_rules.specs.Steps.{stands_on, hangs_on, emptied, changed_on}
+use Rattle.lrc_rules.specs.Steps.{stands_on, hangs_on, changed_on}
 use Rattle.lrc_rules.specs.Goodness.{AreSeated}
 use Rattle.lrc_rules.proofs.AlikeListLemmas.{flat-member, member-flat}
 use Rattle.lrc_rules.proofs.LookUpLemmas.{is_of, seat_in, test-sym}

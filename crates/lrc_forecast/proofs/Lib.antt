@@ -12,4 +12,5 @@ pub mod FutureLemmas
 pub mod SafeLemmas
 pub mod RefusedLemmas
 pub mod ExampleLemmas
+pub mod ReturnExampleLemmas
 pub mod AlikeForecastLemmas

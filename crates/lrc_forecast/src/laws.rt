@@ -22,7 +22,7 @@ ghost use Rattle.lrc_rules.specs.Histories.{IsLegal, state_after};
 ghost use Rattle.lrc_rules.specs.Goodness.{AreSeated};
 ghost use Rattle.lrc_forecast.specs.declared.outlook.Outage.{Outage};
 ghost use Rattle.lrc_forecast.specs.declared.outlook.Outage.TheVariants.{Stop, Lose};
-ghost use Rattle.lrc_forecast.specs.Forecasts.{state_with, is_on_any, hit_in, HasSameLosses, ended_leases, goes_away, loses_seat, outlook, forecast, is_harmed, harms_none, IsUnrecoverable, KeepsSeats, Call, AreReturns, state_after_calls};
+ghost use Rattle.lrc_forecast.specs.Forecasts.{state_with, is_on_any, hit_in, HasSameLosses, ended_leases, goes_away, loses_seat, outlook, forecast, is_harmed, harms_none, IsUnrecoverable, KeepsSeats, Call, is_return, AreReturns, state_after_calls};
 
 /// Where the store takes the command `Down` or `Fail`, it comes to the state with the outage of this node. Where it
 /// refuses the command, each stripe has the same level, the same missing fragments and the same leases with the outage as
@@ -94,6 +94,18 @@ pub fn no_return_makes_a_safe_outage_harmful()
     ensures all { (nodes : List NodeInfo) (past more : List Entry) (st : State) (outage : Outage) (ns : List NodeNo) (calls : List Call) (s : StripeNo)
         → AreSeated nodes st → AreReturns calls → IsTrue (harms_none (forecast nodes st outage ns)) → Contains st.stripes s
         → IsUnrecoverable nodes (state_after_calls nodes more (state_with outage st ns) calls) s ↔ IsUnrecoverable nodes (state_after_calls nodes past st calls) s }
+{}
+
+/// What a return can bring back counts as harm, and not for nothing. After some legal history a stripe is unavailable, and an outage of
+/// one node is not safe. Then one return shows why: without the outage the stripe is recoverable after it, and with the outage it
+/// is not. This holds where a node stops whose domain is upgrading, and where a node is lost that is down.
+pub fn a_return_shows_the_harm()
+    ensures { (outage : Outage) → (nodes : List NodeInfo) × (history : List Entry) × (n : NodeNo) × (call : Call) × (s : StripeNo)
+        × AreNodes nodes × IsLegal nodes history × IsTrue (is_return call.1)
+        × IsUnrecoverable nodes (state_after nodes history) s
+        × IsFalse (harms_none (forecast nodes (state_after nodes history) outage (n ∷ [])))
+        × IsUnrecoverable nodes (state_after_calls nodes history (state_with outage (state_after nodes history) (n ∷ [])) (call ∷ [])) s
+        × ¬ (IsUnrecoverable nodes (state_after_calls nodes history (state_after nodes history) (call ∷ [])) s) }
 {}
 
 /// The outage of one node can be safe, that of another node too, and the outage of both not: this holds of some nodes

@@ -1,6 +1,6 @@
 //! The seats that go away where some nodes stop or are lost.
 
-ghost use Rattle.std.specs.Prelude.{◌≡◌, ℕ, ◌||◌, length, map};
+ghost use Rattle.std.specs.Prelude.{◌≡◌, length, map, get_or, None};
 ghost use Rattle.std.specs.List.{list_any};
 ghost use Rattle.lrc_code.specs.declared.codes.Code.TheVariants.{Wide};
 ghost use Rattle.lrc_code.specs.Codes.{fragments};
@@ -26,10 +26,39 @@ pub(crate) fn loses_seat(
     ensures { (of : Homes) → homes.now ≡ map (λ f. of f.value) (fragments Wide)
         → result ≡ list_any (has_going_seat nodes.now outage book.now.nodes (state_of book.now) stripe of) (fragments Wide) }
 {
-    Fragment::all().iter().any(|fragment| {
-        is_going(book, outage, homes[fragment.value as usize], nodes)
-            || is_going(book, outage, target(book, stripe, *fragment), nodes)
-    })
+    is_any_going(book, outage, stripe, homes, nodes)
+}
+
+/// Whether the home or the target of a fragment is on such a node.
+fn is_any_going(
+    book: &Book,
+    outage: Outage,
+    stripe: StripeNo,
+    homes: &[Option<Seat>; FRAGMENTS],
+    nodes: &NodeSet,
+) -> bool
+    requires long { length nodes.now ≡ 65536 }
+    ensures { result ≡ list_any (has_going_seat nodes.now outage book.now.nodes (state_of book.now) stripe (λ f. get_or homes.now f None)) (fragments Wide) }
+{
+    Fragment::all().iter().any(|fragment| has_going_seat(
+        book, outage, stripe, *fragment, homes, nodes,
+    ))
+}
+
+/// Whether the home or the target of this fragment is on such a node.
+fn has_going_seat(
+    book: &Book,
+    outage: Outage,
+    stripe: StripeNo,
+    fragment: Fragment,
+    homes: &[Option<Seat>; FRAGMENTS],
+    nodes: &NodeSet,
+) -> bool
+    requires long { length nodes.now ≡ 65536 }
+    ensures { result ≡ has_going_seat nodes.now outage book.now.nodes (state_of book.now) stripe (λ f. get_or homes.now f None) fragment }
+{
+    is_going(book, outage, homes[fragment.value as usize], nodes)
+        || is_going(book, outage, target(book, stripe, fragment), nodes)
 }
 
 /// The target of the live lease of a fragment.

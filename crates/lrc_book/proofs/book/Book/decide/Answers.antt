@@ -5,6 +5,7 @@ use Rattle.lrc_rules.specs.Steps.{step}
 use Rattle.lrc_rules.proofs.GoodLemmas.{past-from}
 use Rattle.lrc_book.specs.Books.{base_world}
 use Rattle.lrc_book.proofs.CountedLemmas.{few-grants}
+use Rattle.lrc_book.proofs.ShownLemmas.{changes-these}
 use Rattle.lrc_book.proofs.book.Book.decide.Goals as goal
 
 pub returns-clause-step : goal.returns-clause-step
@@ -15,6 +16,10 @@ returns-clause-step c =
     let told = (rw c.deref.ensures at c.reply-reply.ensures) w.state (base.past ++ b.history.items) c.self.invariant.store_is c.self.invariant.counted c.self.invariant.cursor_is in
     rw (← c.self.view_is)
     (sym (told ∙ ap (λ (past : List Entry). (step b.store.value.topology past w.state c.args.session c.args.command).0) (sym (past-from b.store.value.topology base b.history.items))))
+
+pub returns-clause-shown : goal.returns-clause-shown
+returns-clause-shown c =
+    changes-these c.args.self.now (record { session = c.args.session; command = c.args.command; reply = c.reply-reply.result }) (returns-clause-step c)
 
 pub returns-clause-room : goal.returns-clause-room
 returns-clause-room c =
