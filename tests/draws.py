@@ -31,9 +31,9 @@ def is_seldom(row):
     return next(row) % 8 == 0
 
 
-def drawn_word(row):
-    at = next(row) % sum(WEIGHTS.values())
-    for word, weight in WEIGHTS.items():
+def drawn_word(row, weights):
+    at = next(row) % sum(weights.values())
+    for word, weight in weights.items():
         if at < weight:
             return word
         at -= weight
@@ -91,9 +91,9 @@ def drawn_report(store, row, session):
     return session if wrong == 2 else lease.holder, stripe, (fragment + (wrong == 3)) % 16, epoch
 
 
-def drawn_call(store, row, within):
+def drawn_call(store, row, within, weights=WEIGHTS):
     """A session and the line of its command."""
-    word, session = drawn_word(row), 1 + next(row) % 8
+    word, session = drawn_word(row, weights), 1 + next(row) % 8
     stripe, fragment = next(row) % (within.stripes + 1), next(row) % 16
     if word in ("next", "tick"):
         return session, word
