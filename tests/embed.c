@@ -623,6 +623,18 @@ static void walks(void) {
     WANT(status == LRC_DONE && count == 0);
 }
 
+// Whether a home of a stripe, or a target of a lease of it, is on one of these nodes.
+static bool has_seat_on(const looks_of_book *it, uint16_t stripe, const uint16_t *nodes, size_t length) {
+    for (size_t i = 0; i < length; i++)
+        for (uint8_t f = 0; f < LRC_FRAGMENTS; f++) {
+            const lrc_home *home = &it->homes[stripe].homes[f];
+            const lrc_lease *lease = &it->leases[stripe][f];
+            if (home->is_there && home->seat.node == nodes[i]) return true;
+            if (lease->epoch != 0 && lease->target.node == nodes[i]) return true;
+        }
+    return false;
+}
+
 // A forecast is what the commands lead to, and only a node of the store is asked of.
 static void forecasts(void) {
     lrc_outlook rows[STRIPES + 1];
@@ -653,7 +665,9 @@ static void forecasts(void) {
                                .after = after.levels[s]};
             if (row.code == 0 || row.after.kind == LRC_WHOLE) continue;
             row.newly_missing = after.missing[s] & (uint16_t)~now.missing[s];
-            row.is_harmed = row.after.kind != LRC_AT_RISK && (row.before.kind != row.after.kind || row.newly_missing != 0);
+            // (none of these nodes is down or gone yet, so each seat on them is newly away)
+            row.is_harmed = row.after.kind != LRC_AT_RISK && (row.before.kind == LRC_WHOLE || row.before.kind == LRC_AT_RISK ||
+                                                              has_seat_on(&now, s, stopped, n));
             WANT(found < count && memcmp(&row, &rows[found++], sizeof row) == 0);
             if (row.is_harmed) is_harmed = true;
         }
@@ -1178,6 +1192,44 @@ static void begin_in(const char *text) {
     image(text);
 }
 
+// Two stripes that are not recoverable. Of stripe 1 fragments 0, 1, 2 and 6 are missing: 0 while domain 0 upgrades, the others
+// while their nodes are down. Those of stripe 2 have no home, and fragment 0 has a lease with its target on node 15.
+static const char *image_of_waiting =
+    "image 1\nbefore 9\nclock 0\nupgrading 0\nnode 1 down\nnode 2 down\nnode 6 down\n"
+    "stripe6 1 0:0 1:0 2:0 3:0 4:0 5:0 6:0 7:0 8:0 9:0\nstripe6 2 - - - 3:1 4:1 5:1 - 7:1 8:1 9:1\n"
+    "granted 2 1 0 0 0 0 0 0 0 0 0 0 0 0 0 0 0\nlease 2 0 1 15:0 3\nend\n";
+
+// A stripe that is not recoverable anyway is harmed where a seat of it goes: with nodes that stop a home or a target on one that
+// is not down yet, though it be offline by its upgrade; with nodes that are lost a home or a target on any.
+static void forecasts_of_waiting(void) {
+    static const struct {
+        uint8_t outage;
+        uint16_t nodes[2];
+        uint8_t is_harmed[2], leases_ended;
+    } asked[] = {
+        {LRC_STOP, {0, 0}, {1, 0}, 0},   {LRC_STOP, {1, 10}, {0, 0}, 0},  {LRC_STOP, {15, 2}, {0, 1}, 0},
+        {LRC_STOP, {0, 15}, {1, 1}, 0},  {LRC_STOP, {6, 19}, {0, 0}, 0},  {LRC_LOSE, {0, 0}, {1, 0}, 0},
+        {LRC_LOSE, {10, 19}, {0, 0}, 0}, {LRC_LOSE, {6, 10}, {1, 0}, 0},  {LRC_LOSE, {15, 11}, {0, 1}, 1},
+        {LRC_LOSE, {1, 15}, {1, 1}, 1},
+    };
+    begin_in(image_of_waiting);
+    for (size_t i = 0; i < sizeof asked / sizeof *asked; i++) {
+        const lrc_outlook wanted[2] = {
+            {.stripe = 1, .missing = 0x0047, .code = LRC_NARROW, .is_harmed = asked[i].is_harmed[0],
+             .before = {.kind = LRC_UNAVAILABLE}, .after = {.kind = LRC_UNAVAILABLE}},
+            {.stripe = 2, .missing = 0x0047, .code = LRC_NARROW, .is_harmed = asked[i].is_harmed[1],
+             .leases_ended = asked[i].leases_ended, .before = {.kind = LRC_LOST}, .after = {.kind = LRC_LOST}},
+        };
+        lrc_outlook rows[STRIPES];
+        size_t count = 99;
+        uint8_t is_safe = 99;
+        uint32_t status;
+        STATUS(status, lrc_embed_forecast(&handle, asked[i].outage, asked[i].nodes, 2, rows, STRIPES, &count, &is_safe));
+        WANT(status == LRC_DONE && count == 2 && memcmp(rows, wanted, sizeof wanted) == 0);
+        WANT(is_safe == (asked[i].is_harmed[0] == 0 && asked[i].is_harmed[1] == 0));
+    }
+}
+
 // No image is made, and nothing is forgotten.
 static bool is_spent(void) {
     uint8_t text[1];
@@ -1272,6 +1324,7 @@ int main(int argc, char **argv) {
     begins();
     if (is_full || strcmp(word, "images") == 0) { // once, and not for each request that is refused
         refused_images();
+        forecasts_of_waiting();
         largest_numbers();
     }
     if (is_full) fill();
