@@ -331,8 +331,9 @@ typedef struct {
     uint16_t missing;       // the fragments that are missing then; fragment f is bit f
     uint16_t newly_missing; // those of them that are not missing now
     uint8_t code;           // an lrc_code
-    uint8_t is_harmed;      // 0 or 1: it is unavailable or lost then; and its level is another one now, a fragment is newly
-                            // missing, or a lease of it ends
+    uint8_t is_harmed;      // 0 or 1: it is unavailable or lost then; and it is neither now, or a home of it, or the target of a
+                            // live lease, goes: with LRC_LOSE it is on one of the nodes, with LRC_STOP on one of those that are
+                            // neither down nor gone now, whichever domain upgrades
     uint8_t leases_ended;   // how many leases of it end by the outage
     uint8_t reserved[3];
     lrc_level before; // its level now
@@ -597,11 +598,12 @@ uint32_t lrc_embed_entries(lrc_handle *handle, uint64_t place, lrc_entry *rows, 
 
 // What would become of the stripes if all these nodes stopped at once, or were lost: `outage` is an lrc_outage. The rows are
 // the stripes that would not be whole then, in rising order, also those that are not whole now. `*is_safe` is 1 if no stripe
-// is harmed, else 0. So it is 0 too where a stripe that is unavailable now would lose more fragments, or a lease that repairs
-// it. A node that is offline changes nothing where it stops; where it is lost, its homes are. Nothing changes. DONE,
-// IS_CLOSED, OUT_OF_MEMORY; OUT_OF_RANGE if it is no outage; UNKNOWN if there is no such node; or SHORT if there are more rows
-// than `length`, which cannot be with LRC_STRIPES rows, and then only `count`, the rows that it needs, and `is_safe` are
-// written.
+// is harmed, else 0. So it is 0 too where a stripe that is unavailable or lost now would lose a home or the target of a lease. A
+// stripe that is not harmed is, after any LRC_UP, LRC_UPGRADED and LRC_REPORT that follow, recoverable with the outage exactly if
+// it is without; other calls that follow are left out. A node that is down or gone changes nothing where it stops, but one that
+// is offline only by an upgrade does; where a node is lost, its homes are. Nothing changes. DONE, IS_CLOSED, OUT_OF_MEMORY;
+// OUT_OF_RANGE if it is no outage; UNKNOWN if there is no such node; or SHORT if there are more rows than `length`, which cannot
+// be with LRC_STRIPES rows, and then only `count`, the rows that it needs, and `is_safe` are written.
 uint32_t lrc_embed_forecast(lrc_handle *handle, uint8_t outage, const uint16_t *nodes, size_t nodes_length,
                             lrc_outlook *rows, size_t length, size_t *count, uint8_t *is_safe);
 
