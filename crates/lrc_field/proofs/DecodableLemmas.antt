@@ -16,7 +16,7 @@ use Rattle.lrc_field.proofs.SublistLemmas.{at_listed}
 use Rattle.lrc_field.proofs.MemberLemmas.{only, fragments_below, at_most_sixteen}
 use Rattle.lrc_field.proofs.ValueLemmas.{AreBytes, value_below, value-scaled, rebuilt, sums_agree}
 use Rattle.lrc_field.proofs.ZeroLemmas.{is_out, AreExact, weights_exact}
-use Rattle.lrc_field.proofs.LeftOutLemmas.{four, Out, IsNear, left_out}
+use Rattle.lrc_field.proofs.LeftOutLemmas.{four, is_spare, Out, IsNear, left_out}
 use Rattle.lrc_field.proofs.NearLemmas.{IsAlone, alone_from, near_from}
 
 -- weights that give a fragment 1, and 0 to each of a set
@@ -25,13 +25,14 @@ pub record Rebuilds (code : Code) (o : FragmentSet) (f : ℕ) (w : Weights) : Ty
   pub one : value_at code w f ≡ 1
   pub none : (g : ℕ) → g < fragment_count code → o g ≡ true → value_at code w g ≡ 0
 
--- and 0 to three fragments, which with the fragment are four
-pub record LeavesOut (code : Code) (f : ℕ) (w : Weights) : Type 0 where
+-- and 0 to three fragments, which with the fragment are four; each of them is in the set, or spare
+pub record LeavesOut (code : Code) (o : FragmentSet) (f : ℕ) (w : Weights) : Type 0 where
   pub x : ℕ
   pub y : ℕ
   pub z : ℕ
   pub none : (g : ℕ) → g < fragment_count code → is_out x y z g ≡ true → value_at code w g ≡ 0
   pub count : size_of code (four f x y z) ≡ 4
+  pub spare : (g : ℕ) → is_out x y z g ≡ true → o g ≡ false → is_spare code (four f x y z) g ≡ true
 
 -- ---- the weights of a fragment in whose group another is lost
 
@@ -67,14 +68,14 @@ module _ (code : Code) (o : FragmentSet) (f x y z : ℕ) (within : f < fragment_
   rebuilds_out : Rebuilds code o f (scaled (inverse own) raw)
   rebuilds_out = record { small = scaled_bytes (inverse own) raw (inverse_below own below) exact.small; one = scaled_one; none = λ g few hit. scaled_none g few (out.lost g few hit) }
 
-  leaves_out : LeavesOut code f (scaled (inverse own) raw)
-  leaves_out = record { x = x; y = y; z = z; none = scaled_none; count = out.count }
+  leaves_out : LeavesOut code o f (scaled (inverse own) raw)
+  leaves_out = record { x = x; y = y; z = z; none = scaled_none; count = out.count; spare = out.spare }
 
-  pub both_out : Rebuilds code o f (scaled (inverse (value_at code (weights_without code x y z) f)) (weights_without code x y z)) × LeavesOut code f (scaled (inverse (value_at code (weights_without code x y z) f)) (weights_without code x y z))
+  pub both_out : Rebuilds code o f (scaled (inverse (value_at code (weights_without code x y z) f)) (weights_without code x y z)) × LeavesOut code o f (scaled (inverse (value_at code (weights_without code x y z) f)) (weights_without code x y z))
   unfolding own raw
   both_out = (rebuilds_out, leaves_out)
 
-pub rebuilds_near : (code : Code) (o : FragmentSet) (f p : ℕ) → f < fragment_count code → o f ≡ false → IsNear code o f p → IsRecoverable code (joined o (only f)) → Rebuilds code o f (weights_for code o f) × LeavesOut code f (weights_for code o f)
+pub rebuilds_near : (code : Code) (o : FragmentSet) (f p : ℕ) → f < fragment_count code → o f ≡ false → IsNear code o f p → IsRecoverable code (joined o (only f)) → Rebuilds code o f (weights_for code o f) × LeavesOut code o f (weights_for code o f)
 unfolding weights_for raw_weights
 rebuilds_near code o f p within out near good =
     both_out code o f (out_of_a code (lost_in code A o)) (out_of_b code (lost_in code B o)) (third_out code (lost_in code A o) (lost_in code B o) (lost_in code G o) f) within (left_out code o f p within out near good)

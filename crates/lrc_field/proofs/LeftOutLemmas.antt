@@ -1,8 +1,8 @@
 -- What is left out where a recoverable set is lost: all of its other members, and as many fragments as make four.
-use Rattle.std.proofs.Common.{◌≡◌, ℕ, ◌+◌, ◌-◌, ◌<◌, ◌≤◌, Bool, true, false, not, ◌&&◌, ◌||◌, eqb, ltb, List, length, refl, ap, ◌∙◌, arith}
+use Rattle.std.proofs.Common.{◌≡◌, ℕ, ◌+◌, ◌-◌, ◌<◌, ◌≤◌, Bool, true, false, not, ◌&&◌, ◌||◌, eqb, ltb, List, length, refl, ap, ◌∙◌, inl, inr, arith}
 use Rattle.std.specs.List.{list_all, list_any}
 use Rattle.std.proofs.lemmas.List.Sums.{length-filter}
-use Rattle.std.proofs.lemmas.Bool.{and_parts, eqb-true, le-ltb, not-true}
+use Rattle.std.proofs.lemmas.Bool.{and_parts, or_cases, eqb-true, le-ltb, not-true}
 use Rattle.lrc_code.specs.declared.codes.Code.{Code}
 use Rattle.lrc_code.specs.declared.codes.Code.TheVariants.{Wide, Narrow}
 use Rattle.lrc_code.specs.declared.codes.Class.{Class}
@@ -21,16 +21,31 @@ use Rattle.lrc_field.proofs.ZeroLemmas.{is_out}
 abbrev pub four : ℕ → ℕ → ℕ → ℕ → ℕ → Bool
 four f x y z g = eqb g f || is_out x y z g
 
+-- the number is the last of the list, and none of the others is in the set
+abbrev pub ends_alone : (ℕ → Bool) → ℕ → List ℕ → Bool
+ends_alone t g xs = list_all (λ h. eqb h g || (ltb h g && not (t h))) xs
+
+-- A fragment that nothing asks to leave out: it is the last of a local group of which no other is left out, or the last
+-- of all that could be left out.
+abbrev pub is_spare : Code → (ℕ → Bool) → ℕ → Bool
+is_spare code t g = (ends_alone t g (members code A) || ends_alone t g (members code B)) || list_all (λ h. t h || ltb h g) (numbers_of code)
+
+-- the fragment is in one of the lists, or nothing asks to leave it out
+abbrev is_needed_or_spare : Code → List ℕ → List ℕ → List ℕ → (ℕ → Bool) → ℕ → Bool
+is_needed_or_spare code la lb lg t g = (list_any (eqb g) la || (list_any (eqb g) lb || list_any (eqb g) lg)) || is_spare code t g
+
 -- the lists can't be those of the others of a recoverable set in which the fragment's local group has another loss
 is_barred : Code → List ℕ → List ℕ → List ℕ → ℕ → Bool
 is_barred code la lb lg f =
     (list_any (eqb f) la || (list_any (eqb f) lb || list_any (eqb f) lg)) || (ltb (length la) (losses_in code A (only f)) || ltb (length lb) (losses_in code B (only f)))
 
--- the three are a member of each local group and a third fragment, none is the fragment, and all of the lists are among them
+-- the three are a member of each local group and a third fragment, none is the fragment, all of the lists are among them,
+-- and the rest is spare
 is_good : Code → List ℕ → List ℕ → List ℕ → ℕ → ℕ → ℕ → ℕ → Bool
 is_good code la lb lg f x y z =
     (list_any (eqb x) (members code A) && (list_any (eqb y) (members code B) && (list_any (eqb z) (numbers_of code) && not (eqb z x || eqb z y))))
-    && ((not (is_out x y z f) && eqb (size_of code (four f x y z)) 4) && (list_all (is_out x y z) la && (list_all (is_out x y z) lb && list_all (is_out x y z) lg)))
+    && (((not (is_out x y z f) && eqb (size_of code (four f x y z)) 4) && (list_all (is_out x y z) la && (list_all (is_out x y z) lb && list_all (is_out x y z) lg)))
+    && (is_needed_or_spare code la lb lg (four f x y z) x && (is_needed_or_spare code la lb lg (four f x y z) y && is_needed_or_spare code la lb lg (four f x y z) z)))
 
 covers : Code → List ℕ → List ℕ → List ℕ → ℕ → Bool
 covers code la lb lg f =
@@ -83,6 +98,26 @@ pub record Out (code : Code) (o : FragmentSet) (f x y z : ℕ) : Type 0 where
   pub other : is_out x y z f ≡ false
   pub count : size_of code (four f x y z) ≡ 4
   pub lost : (g : ℕ) → g < fragment_count code → o g ≡ true → is_out x y z g ≡ true
+  pub spare : (g : ℕ) → is_out x y z g ≡ true → o g ≡ false → is_spare code (four f x y z) g ≡ true
+
+abbrev is_lost_or_spare : Code → FragmentSet → (ℕ → Bool) → ℕ → Bool
+is_lost_or_spare code o t g = is_needed_or_spare code (lost_in code A o) (lost_in code B o) (lost_in code G o) t g
+
+-- what is not lost is spare
+spare_from : (code : Code) (o : FragmentSet) (t : ℕ → Bool) (g : ℕ) → o g ≡ false → is_lost_or_spare code o t g ≡ true → is_spare code t g ≡ true
+spare_from code o t g kept h = rw (any_filter o g (members code A) kept, any_filter o g (members code B) kept, any_filter o g (members code G) kept) at h
+
+spare_of_three : (code : Code) (o : FragmentSet) (t : ℕ → Bool) (x y z : ℕ) → (is_lost_or_spare code o t x && (is_lost_or_spare code o t y && is_lost_or_spare code o t z)) ≡ true → (g : ℕ) → is_out x y z g ≡ true → o g ≡ false → is_spare code t g ≡ true
+spare_of_three code o t x y z h g out kept =
+    let p = and_parts (is_lost_or_spare code o t x) (is_lost_or_spare code o t y && is_lost_or_spare code o t z) h in
+    let q = and_parts (is_lost_or_spare code o t y) (is_lost_or_spare code o t z) p.1 in
+    spare_from code o t g kept (elim (or_cases (eqb g x) (eqb g y || eqb g z) out) [
+      | inl is_x ↦ ap (is_lost_or_spare code o t) (eqb-true g x is_x) ∙ p.0
+      | inr later ↦ elim (or_cases (eqb g y) (eqb g z) later) [
+        | inl is_y ↦ ap (is_lost_or_spare code o t) (eqb-true g y is_y) ∙ q.0
+        | inr is_z ↦ ap (is_lost_or_spare code o t) (eqb-true g z is_z) ∙ q.1
+      ]
+    ])
 
 out_from : (code : Code) (o : FragmentSet) (f x y z : ℕ) → is_good code (lost_in code A o) (lost_in code B o) (lost_in code G o) f x y z ≡ true → Out code o f x y z
 unfolding is_good
@@ -91,11 +126,14 @@ out_from code o f x y z h =
     let lb = lost_in code B o in
     let lg = lost_in code G o in
     let t = is_out x y z in
-    let p = and_parts (list_any (eqb x) (members code A) && (list_any (eqb y) (members code B) && (list_any (eqb z) (numbers_of code) && not (eqb z x || eqb z y)))) ((not (is_out x y z f) && eqb (size_of code (four f x y z)) 4) && (list_all t la && (list_all t lb && list_all t lg))) h in
+    let is_counted = (not (is_out x y z f) && eqb (size_of code (four f x y z)) 4) && (list_all t la && (list_all t lb && list_all t lg)) in
+    let are_spare = is_lost_or_spare code o (four f x y z) x && (is_lost_or_spare code o (four f x y z) y && is_lost_or_spare code o (four f x y z) z) in
+    let p = and_parts (list_any (eqb x) (members code A) && (list_any (eqb y) (members code B) && (list_any (eqb z) (numbers_of code) && not (eqb z x || eqb z y)))) (is_counted && are_spare) h in
+    let both = and_parts is_counted are_spare p.1 in
     let q = and_parts (list_any (eqb x) (members code A)) (list_any (eqb y) (members code B) && (list_any (eqb z) (numbers_of code) && not (eqb z x || eqb z y))) p.0 in
     let r = and_parts (list_any (eqb y) (members code B)) (list_any (eqb z) (numbers_of code) && not (eqb z x || eqb z y)) q.1 in
     let s = and_parts (list_any (eqb z) (numbers_of code)) (not (eqb z x || eqb z y)) r.1 in
-    let u = and_parts (not (is_out x y z f) && eqb (size_of code (four f x y z)) 4) (list_all t la && (list_all t lb && list_all t lg)) p.1 in
+    let u = and_parts (not (is_out x y z f) && eqb (size_of code (four f x y z)) 4) (list_all t la && (list_all t lb && list_all t lg)) both.0 in
     let w = and_parts (not (is_out x y z f)) (eqb (size_of code (four f x y z)) 4) u.0 in
     let a = and_parts (list_all t la) (list_all t lb && list_all t lg) u.1 in
     let b = and_parts (list_all t lb) (list_all t lg) a.1 in
@@ -107,6 +145,7 @@ out_from code o f x y z h =
       other = not-true (is_out x y z f) w.0;
       count = eqb-true (size_of code (four f x y z)) 4 w.1;
       lost = λ g few hit. in_set code o t a.0 b.0 b.1 g few hit;
+      spare = spare_of_three code o (four f x y z) x y z both.1;
     }
 
 -- in each local group that has the fragment, another is lost

@@ -15,6 +15,8 @@ pub mod MarginDecodingLemmas
 pub mod TooManyLemmas
 pub mod WhichLemmas
 pub mod CountLemmas
+pub mod RisingLemmas
 pub mod RecipeLemmas
 pub mod SomeRecipeLemmas
+pub mod FirstRecipeLemmas
 pub mod FirstLemmas

@@ -12,7 +12,7 @@ use Rattle.lrc_field.specs.Recipes.{read_by, readable, IsRecipe}
 use Rattle.lrc_field.specs.Weights.{Weights, coefficient_by, local_weights, weights_for}
 use Rattle.lrc_field.proofs.FieldLemmas.{zero_times}
 use Rattle.lrc_field.proofs.MemberLemmas.{fragments_below}
-use Rattle.lrc_field.proofs.RecipeLemmas.{AreOf, others_of, read_none, local_recipe, near_recipe, no_recipe}
+use Rattle.lrc_field.proofs.RecipeLemmas.{AreOf, Made, others_of, read_none, local_recipe, near_recipe, no_recipe}
 
 abbrev pub HasRecipe : Code → FragmentSet → Fragment → Type 0
 HasRecipe code missing f = (c : ℕ → ℕ) × IsRecipe code missing f.value c
@@ -25,17 +25,21 @@ are_those : (code : Code) (f : ℕ) (w : Weights) → AreOf code f w (coefficien
 unfolding coefficients
 are_those code f w = record { by = λ g low. rw (lt-ltb g 16 low) refl; past = λ g high. rw (le-ltb g 16 high) refl }
 
-made : (code : Code) (m : FragmentSet) (f : Fragment) → f.value < fragment_count code → Determines code (readable m f.value) f.value → HasRecipe code m f
+pub record SomeMade (code : Code) (m : FragmentSet) (f : Fragment) : Type 0 where
+  pub c : ℕ → ℕ
+  pub is : Made code m f c
+
+pub made : (code : Code) (m : FragmentSet) (f : Fragment) → f.value < fragment_count code → Determines code (readable m f.value) f.value → SomeMade code m f
 made code m f within determines = elim (cases_Bool (is_local code m f)) [
   | inl local ↦
       let w = local_weights code f.value in
-      (coefficients code f.value w, (local_recipe code m f (coefficients code f.value w) within local (are_those code f.value w)).recipe)
+      record { c = coefficients code f.value w; is = local_recipe code m f (coefficients code f.value w) within local (are_those code f.value w) }
   | inr absent ↦
       let o = others_of m f.value in
       let w = weights_for code o f.value in
       let lost : FragmentSet = λ g. eqb g f.value || m g in
       let good = no_recipe code m o f (λ _. 0) within (λ g. refl) absent lost (λ g. refl) determines in
-      (coefficients code f.value w, (near_recipe code m o f (coefficients code f.value w) within (λ g. refl) absent lost (λ g. refl) good (are_those code f.value w)).recipe)
+      record { c = coefficients code f.value w; is = near_recipe code m o f (coefficients code f.value w) within (λ g. refl) absent lost (λ g. refl) good (are_those code f.value w) }
 ]
 
 -- ---- what is read determines the fragment
@@ -51,7 +55,7 @@ module _ (c : ℕ → ℕ) (v w : Bytes) (lv : (f : ℕ) → v f < 256) (lw : (f
       let parts = and_parts (ltb f n) (list_all (λ g. ltb g n) fs) h in
       ap₂ plus (one_same f (same f (ltb-true f n parts.0))) (sum_of-common n same fs parts.1)
 
-determines_by : (code : Code) (m : FragmentSet) (f : Fragment) → HasRecipe code m f → Determines code (readable m f.value) f.value
+pub determines_by : (code : Code) (m : FragmentSet) (f : Fragment) → HasRecipe code m f → Determines code (readable m f.value) f.value
 determines_by code m f (c, recipe) v w sv sw common =
     let same = sum_of-common c v w sv.bytes sw.bytes (fragment_count code) (λ g few. elim (cases_Bool (read_by c g)) [
       | inl reads ↦ inr (common g few (recipe.standing g reads))
@@ -61,4 +65,4 @@ determines_by code m f (c, recipe) v w sv sw common =
 
 -- A fragment has a recipe exactly if what can be read determines it.
 pub some_recipe : (code : Code) (m : FragmentSet) (f : Fragment) → f.value < fragment_count code → Determines code (readable m f.value) f.value ↔ HasRecipe code m f
-some_recipe code m f within = (made code m f within, determines_by code m f)
+some_recipe code m f within = (λ determines. (let it = made code m f within determines in (it.c, it.is.recipe.recipe)), determines_by code m f)

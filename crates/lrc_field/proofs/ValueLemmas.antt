@@ -120,7 +120,7 @@ singled r v f one lv (x ∷ xs) h = elim (cases_Bool (eqb x f)) [
       rw (other, singled r v f one lv xs tail) (xor_turn (times (r x) (v x)) (v f) (sum_of (rest r f) v xs))
 ]
 
-fragments_once : (code : Code) → agree_below (λ f. once f (numbers_of code)) (λ _. true) (fragment_count code) ≡ true
+pub fragments_once : (code : Code) → agree_below (λ f. once f (numbers_of code)) (λ _. true) (fragment_count code) ≡ true
 fragments_once Wide = refl
 fragments_once Narrow = refl
 

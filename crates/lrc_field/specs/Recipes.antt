@@ -1,5 +1,5 @@
 -- How a fragment is rebuilt from others.
-use Rattle.std.specs.Prelude.{◌≡◌, ℕ, ◌<◌, ◌≤◌, not, ◌&&◌, nat_eq, IsTrue}
+use Rattle.std.specs.Prelude.{◌≡◌, ℕ, ◌<◌, ◌≤◌, not, ◌&&◌, nat_eq, IsTrue, IsFalse}
 use Rattle.lrc_code.specs.declared.codes.Code.{Code}
 use Rattle.lrc_code.specs.Codes.{fragment_count}
 use Rattle.lrc_code.specs.Losses.{FragmentSet, size_of}
@@ -20,3 +20,16 @@ pub record IsRecipe (code : Code) (missing : FragmentSet) (f : ℕ) (coefficient
   pub standing : (g : ℕ) → IsTrue (read_by coefficient g) → IsTrue (readable missing f g)
   pub exact : (v : Bytes) → IsStripe code v → v f ≡ sum_of coefficient v (numbers_of code)
   pub fewest : (known : FragmentSet) → ((g : ℕ) → g < fragment_count code → IsTrue (known g) → IsTrue (readable missing f g)) → Determines code known f → size_of code (read_by coefficient) ≤ size_of code known
+
+-- Of two sets the first comes first by their fragments in rising order, or they are the same: for each fragment that only
+-- the second has there is a lower one that only the first has.
+abbrev pub ComesFirst : Code → FragmentSet → FragmentSet → Type 0
+ComesFirst code s t = (g : ℕ) → g < fragment_count code → IsTrue (t g) → IsFalse (s g) → (h : ℕ) × (h < g) × IsTrue (s h) × IsFalse (t h)
+
+-- The recipe that is told. Of the sets of fewest fragments that can be read and determine the fragment, it reads the one
+-- that comes first by its fragments in rising order. Each coefficient is a byte.
+pub record IsFirstRecipe (code : Code) (missing : FragmentSet) (f : ℕ) (coefficient : ℕ → ℕ) : Type 0 where
+  pub recipe : IsRecipe code missing f coefficient
+  pub bytes : (g : ℕ) → coefficient g < 256
+  pub first : (known : FragmentSet) → ((g : ℕ) → g < fragment_count code → IsTrue (known g) → IsTrue (readable missing f g)) → Determines code known f →
+      size_of code known ≡ size_of code (read_by coefficient) → ComesFirst code (read_by coefficient) known

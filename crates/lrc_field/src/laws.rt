@@ -1,13 +1,13 @@
 //! Laws of the definitions in `specs/`. Each law is the contract of a function that does nothing.
 
-ghost use Rattle.std.specs.Prelude.{◌≡◌, ◌≢◌, ◌↔◌, ◌⊎◌, ◌<◌, ◌≤◌, ◌+◌, ℕ, IsTrue, IsFalse};
+ghost use Rattle.std.specs.Prelude.{◌≡◌, ◌≢◌, ◌↔◌, ◌⊎◌, ◌<◌, ◌≤◌, ◌+◌, if◌then◌else◌, ℕ, IsTrue, IsFalse};
 ghost use Rattle.lrc_code.specs.declared.codes.Code.{Code};
 ghost use Rattle.lrc_code.specs.declared.numbers.Fragment.{Fragment};
-ghost use Rattle.lrc_code.specs.Codes.{fragment_count};
+ghost use Rattle.lrc_code.specs.Codes.{fragment_count, other_count};
 ghost use Rattle.lrc_code.specs.Losses.{FragmentSet, IsRecoverable, IsMargin, size_of, is_local};
 ghost use Rattle.lrc_field.specs.Field.{plus, times, inverse};
 ghost use Rattle.lrc_field.specs.Polynomials.{product, remainder};
-ghost use Rattle.lrc_field.specs.Recipes.{IsRecipe, readable};
+ghost use Rattle.lrc_field.specs.Recipes.{IsRecipe, IsFirstRecipe, ComesFirst, readable, read_by};
 ghost use Rattle.lrc_field.specs.Stripes.{Bytes, IsStripe, IsOfRows, outside, data_count};
 ghost use Rattle.lrc_field.specs.Stripes.{Determines, IsDecodable, AreAlikeOutside, StaysDecodable, AreTooMany, IsDecodableMargin};
 
@@ -72,4 +72,25 @@ pub fn determined_fragments()
         IsTrue (is_local code (outside known) f) ⊎ (data_count code ≤ size_of code known) }
     ensures recipe { (code : Code) (missing : FragmentSet) (f : Fragment) → f.value < fragment_count code →
         Determines code (readable missing f.value) f.value ↔ ((c : ℕ → ℕ) × IsRecipe code missing f.value c) }
+{}
+
+/// Of two sets of fragments one comes first by its fragments in rising order, and each does exactly if they are the same.
+/// So a fragment that can be rebuilt has a first recipe, and only one.
+pub fn first_recipes()
+    ensures either { (code : Code) (s t : FragmentSet) → ComesFirst code s t ⊎ ComesFirst code t s }
+    ensures both { (code : Code) (s t : FragmentSet) →
+        (ComesFirst code s t × ComesFirst code t s) ↔ ((g : ℕ) → g < fragment_count code → s g ≡ t g) }
+    ensures some { (code : Code) (missing : FragmentSet) (f : Fragment) → f.value < fragment_count code →
+        Determines code (readable missing f.value) f.value ↔ ((c : ℕ → ℕ) × IsFirstRecipe code missing f.value c) }
+    ensures only { (code : Code) (missing : FragmentSet) (f : ℕ) (c d : ℕ → ℕ) →
+        IsFirstRecipe code missing f c → IsFirstRecipe code missing f d → (g : ℕ) → c g ≡ d g }
+{}
+
+/// Each recipe of a fragment reads as many fragments as its local group has others, if none of them is missing, and else
+/// as many as there are data fragments. Two that read the same fragments have the same coefficients.
+pub fn recipes_by_what_they_read()
+    ensures count { (code : Code) (missing : FragmentSet) (f : Fragment) (c : ℕ → ℕ) → f.value < fragment_count code → IsRecipe code missing f.value c →
+        size_of code (read_by c) ≡ (if is_local code missing f then other_count code else data_count code) }
+    ensures coefficients { (code : Code) (missing : FragmentSet) (f : ℕ) (c d : ℕ → ℕ) → ((g : ℕ) → c g < 256) → ((g : ℕ) → d g < 256) →
+        IsRecipe code missing f c → IsRecipe code missing f d → ((g : ℕ) → read_by c g ≡ read_by d g) → (g : ℕ) → c g ≡ d g }
 {}

@@ -4,7 +4,7 @@ ghost use Rattle.lrc_code.specs.Numbers.{same_fragment};
 ghost use Rattle.lrc_code.specs.Codes.{fragment_count, share_class, other_count};
 ghost use Rattle.lrc_code.specs.Losses.{bits_set, is_local as is_local_in};
 ghost use Rattle.lrc_field.specs.Stripes.{data_count, Determines};
-ghost use Rattle.lrc_field.specs.Recipes.{IsRecipe, readable};
+ghost use Rattle.lrc_field.specs.Recipes.{IsFirstRecipe, readable};
 ghost use Rattle.lrc_field.specs.Weights.{coefficient_by, weights_for, local_weights as local_weights_of};
 
 use crate::equations::Weights;
@@ -24,10 +24,11 @@ pub struct Recipe {
 impl Recipe {
     /// Returns how a fragment is rebuilt where some fragments are missing, itself among them or not. It reads the six
     /// others of its local group (three with the code `Narrow`) if none of them is missing, with the coefficient 1; else
-    /// twelve fragments (six), and no fewer determine it. Returns `None` exactly if the fragments that are not missing,
-    /// but for itself, don't determine it, or the code has no such fragment.
+    /// twelve fragments (six), and no fewer determine it. Of the sets of that size that determine it, it reads the one that
+    /// comes first by its fragments in rising order: no other recipe does. Returns `None` exactly if the fragments that are
+    /// not missing, but for itself, don't determine it, or the code has no such fragment.
     pub fn of(code: Code, missing: LossMask, fragment: Fragment) -> Option<Recipe>
-        ensures recipe { IfSome result (λ r. IsRecipe code (bits_set missing.bits) fragment.value (λ g. get_or r.coefficients g 0)) }
+        ensures recipe { IfSome result (λ r. IsFirstRecipe code (bits_set missing.bits) fragment.value (λ g. get_or r.coefficients g 0)) }
         ensures some { IsSome result ↔ ((fragment.value < fragment_count code) × Determines code (readable (bits_set missing.bits) fragment.value) fragment.value) }
         ensures reads { IfSome result (λ r. count_by (λ c. not (nat_eq c 0)) r.coefficients ≡ (if is_local_in code (bits_set missing.bits) fragment then other_count code else data_count code)) }
         ensures local { IfSome result (λ r. IsTrue (is_local_in code (bits_set missing.bits) fragment) → (g : AnyFragment) →
