@@ -1,3 +1,4 @@
 pub mod ProductLemmas
 pub mod SumLemmas
 pub mod StripeLemmas
+pub mod CopyLemmas

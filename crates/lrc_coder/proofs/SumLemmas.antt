@@ -8,7 +8,7 @@ use Rattle.lrc_field.specs.Field.{times, times_by, times_x}
 use Rattle.lrc_field.specs.Stripes.{Bytes, sum_of}
 use Rattle.lrc_coder.specs.Buffers.{read, buffer_at, bytes_at}
 
-zero_by : (n a : ℕ) → times_by n 0 a ≡ 0
+pub zero_by : (n a : ℕ) → times_by n 0 a ≡ 0
 unfolding times_by
 zero_by zero a = refl
 zero_by (suc n) a = let p : 0 % 2 * a ≡ 0 = omega arith in let q : 0 / 2 ≡ 0 = omega arith in rw (p, q, zero_by n (times_x a)) refl

@@ -1,10 +1,10 @@
 -- What is encoded and rebuilt, and which buffers are refused.
-use Rattle.std.specs.Prelude.{◌≡◌, ◌≢◌, ℕ, ◌<◌, List, length, ◌++◌, get_or, IsTrue}
+use Rattle.std.specs.Prelude.{◌≡◌, ◌≢◌, ℕ, ◌<◌, ◌⊎◌, List, length, ◌++◌, get_or, IsTrue}
 use Rattle.lrc_code.specs.declared.codes.Code.{Code}
 use Rattle.lrc_code.specs.Codes.{fragment_count}
 use Rattle.lrc_code.specs.Losses.{FragmentSet}
 use Rattle.lrc_field.specs.Stripes.{Bytes, IsStripe, data_count}
-use Rattle.lrc_field.specs.Recipes.{IsRecipe, read_by}
+use Rattle.lrc_field.specs.Recipes.{IsRecipe, read_by, only_itself}
 use Rattle.lrc_coder.specs.Buffers.{buffer_at, bytes_at, each_of, AreLong, IsSum}
 use Rattle.lrc_coder.specs.declared.error.CodingError.{CodingError}
 use Rattle.lrc_coder.specs.declared.error.CodingError.TheVariants.{Count, Length}
@@ -37,10 +37,15 @@ pub record IsEncoded (code : Code) (sources before after : List (List ℕ)) : Ty
   pub even : AreEven (sources ++ before) (fragment_count code)
   pub stripe : (i : ℕ) → i < length (buffer_at sources 0) → IsStripe code (bytes_at (sources ++ after) i)
 
--- At each position there is the sum of the fragments' bytes, each times its coefficient. If the recipe is one of a fragment, and what it reads are bytes of a stripe, then that is the fragment's byte.
+-- the coefficients give a fragment of the code: they are a recipe of it, whichever are missing, or they copy it
+abbrev pub Gives : Code → ℕ → List ℕ → Type 0
+Gives code f coefficients = ((missing : FragmentSet) × IsRecipe code missing f (each_of coefficients)) ⊎ ((f < fragment_count code) × (coefficients ≡ only_itself f))
+
+-- At each position there is the sum of the fragments' bytes, each times its coefficient. If the coefficients give a fragment, and what is read are bytes of a stripe, then that is the fragment's byte. A copy is what is read, whatever it is.
 pub record IsRebuilt (code : Code) (coefficients : List ℕ) (fragments : List (List ℕ)) (before after : List ℕ) : Type 0 where
   pub counted : length fragments ≡ fragment_count code
   pub lengths : AreLong coefficients fragments (fragment_count code) (length before)
   pub sum : IsSum coefficients fragments (fragment_count code) before after
-  pub exact : (missing : FragmentSet) (f i : ℕ) (v : Bytes) → IsRecipe code missing f (each_of coefficients) → IsStripe code v →
+  pub exact : (f i : ℕ) (v : Bytes) → Gives code f coefficients → IsStripe code v →
       ((g : ℕ) → IsTrue (read_by (each_of coefficients) g) → bytes_at fragments i g ≡ v g) → i < length before → get_or after i 0 ≡ v f
+  pub copied : (f i : ℕ) → f < fragment_count code → coefficients ≡ only_itself f → i < length before → get_or after i 0 ≡ bytes_at fragments i f

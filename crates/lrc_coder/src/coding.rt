@@ -97,8 +97,8 @@ fn put_parity(code: Code, number: usize, data_fragments: &[&[u8]], parity: &mut 
 
 /// Writes what the recipe makes of a stripe's fragments: at each position their sum, each times its coefficient.
 /// `fragments` has a buffer for each fragment of the code, in order. Those that the recipe reads are as long as `rebuilt`;
-/// the others are not read, and may be empty. If the recipe is one of a fragment, and what is read are bytes of a stripe,
-/// that fragment's bytes are written.
+/// the others are not read, and may be empty. If the recipe is one of a fragment, or copies it, and what is read are bytes
+/// of a stripe, that fragment's bytes are written.
 ///
 /// It returns `Count` if the buffers are not as many as the fragments of the code, and else `Length` with the first
 /// fragment that is read and whose buffer is not as long as `rebuilt`. With an error nothing is written.

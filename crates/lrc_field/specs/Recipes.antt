@@ -1,5 +1,5 @@
 -- How a fragment is rebuilt from others.
-use Rattle.std.specs.Prelude.{◌≡◌, ℕ, ◌<◌, ◌≤◌, not, ◌&&◌, nat_eq, IsTrue, IsFalse}
+use Rattle.std.specs.Prelude.{◌≡◌, ℕ, ◌<◌, ◌≤◌, not, ◌&&◌, nat_eq, IsTrue, IsFalse, List, replicate, set}
 use Rattle.lrc_code.specs.declared.codes.Code.{Code}
 use Rattle.lrc_code.specs.Codes.{fragment_count}
 use Rattle.lrc_code.specs.Losses.{FragmentSet, size_of}
@@ -33,3 +33,7 @@ pub record IsFirstRecipe (code : Code) (missing : FragmentSet) (f : ℕ) (coeffi
   pub bytes : (g : ℕ) → coefficient g < 256
   pub first : (known : FragmentSet) → ((g : ℕ) → g < fragment_count code → IsTrue (known g) → IsTrue (readable missing f g)) → Determines code known f →
       size_of code known ≡ size_of code (read_by coefficient) → ComesFirst code (read_by coefficient) known
+
+-- the sixteen coefficients of a copy: 1 at the fragment itself, and 0 at the others
+abbrev pub only_itself : ℕ → List ℕ
+only_itself f = set (replicate 16 0) f 1

@@ -1,10 +1,11 @@
-use Rattle.std.proofs.Common.{◌≡◌, length, subst, ap, sym, ◌∙◌, arith}
+use Rattle.std.proofs.Common.{◌≡◌, length, subst, ap, sym, ◌∙◌, inl, inr, arith}
 use Rattle.std.specs.List.{range_with_len}
 use Rattle.lrc_field.specs.Stripes.{sum_of}
 use Rattle.std.proofs.lemmas.List.{length-map}
 use Rattle.lrc_code.specs.Codes.{fragment_count}
 use Rattle.lrc_coder.specs.Buffers.{read, bytes_at, each_of, IsSum}
 use Rattle.lrc_coder.proofs.StripeLemmas.{sum_of-read, numbers_range}
+use Rattle.lrc_coder.proofs.CopyLemmas.{copied_sum, copy_reads}
 use Rattle.lrc_coder.proofs.coding.rebuild.Goals as goal
 
 pub returns-clause-rebuilt : goal.returns-clause-rebuilt
@@ -22,9 +23,13 @@ returns-clause-rebuilt c =
       counted = length-map fragments (λ b. b.now) ∙ count;
       lengths = λ f low. c.loop-number.invariant f (omega (arith, low, end, last));
       sum = sum;
-      exact = λ missing f i v recipe stripe same low.
-          sum.bytes i low
-          ∙ sum_of-read w (bytes_at (read fragments) i) v same (range_with_len 0 (fragment_count c.args.code))
-          ∙ ap (sum_of w v) (sym (numbers_range c.args.code))
-          ∙ sym (recipe.exact v stripe);
+      exact = λ f i v gives stripe same low. elim gives [
+        | inl recipe ↦
+            sum.bytes i low
+            ∙ sum_of-read w (bytes_at (read fragments) i) v same (range_with_len 0 (fragment_count c.args.code))
+            ∙ ap (sum_of w v) (sym (numbers_range c.args.code))
+            ∙ sym (recipe.1.exact v stripe)
+        | inr copy ↦ sum.bytes i low ∙ (copied_sum c.args.code coefficients (bytes_at (read fragments) i) f copy.0 copy.1 ∙ same f (copy_reads c.args.code coefficients f copy.0 copy.1))
+      ];
+      copied = λ f i within copy low. sum.bytes i low ∙ copied_sum c.args.code coefficients (bytes_at (read fragments) i) f within copy;
     }
