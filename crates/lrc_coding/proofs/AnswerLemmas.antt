@@ -7,7 +7,7 @@ use Rattle.lrc_code.specs.declared.numbers.Fragment.{Fragment}
 use Rattle.lrc_code.specs.Codes.{fragment_count}
 use Rattle.lrc_code.specs.Losses.{FragmentSet, bits_set}
 use Rattle.lrc_field.specs.declared.recipes.Recipe.{Recipe}
-use Rattle.lrc_field.specs.Recipes.{IsRecipe, readable}
+use Rattle.lrc_field.specs.Recipes.{IsFirstRecipe, readable}
 use Rattle.lrc_field.specs.Stripes.{Determines, outside}
 use Rattle.lrc_coding.specs.declared.refusal.RecipeRefusal.TheVariants.{Undetermined}
 use Rattle.lrc_coding.specs.Answers.{coefficient_in, IsMissing, IsAnswerTo}
@@ -26,7 +26,7 @@ by_outside code m f lost determined v w one other same =
     determined v w one other (λ g within known. same g within (read_too m f g lost known (nat_eq g f) refl))
 
 pub answered : (code : Code) (bits : ℕ) (word : List ℕ) (f : Fragment) (found : Option Recipe) → IsMissing code bits word f.value
-    → IfSome found (λ r. IsRecipe code (bits_set bits) f.value (coefficient_in r))
+    → IfSome found (λ r. IsFirstRecipe code (bits_set bits) f.value (coefficient_in r))
     → IsSome found ↔ ((f.value < fragment_count code) × Determines code (readable (bits_set bits) f.value) f.value)
     → IsAnswerTo code bits word (ok_or found (Undetermined f))
 answered code bits word f (Some r) missing recipe some = (f.value, missing, recipe)

@@ -1,6 +1,8 @@
 -- Rows of recipes suffice, and answers exclude each other.
-use Rattle.std.proofs.Common.{◌≡◌, ◌≢◌, ℕ, ◌<◌, ◌≤◌, ◌⊎◌, inl, inr, Bool, true, false, cond, not, nat_eq, List, [], ◌∷◌, ◌++◌, map, filter, Option, Some, None, Ok, Err, Result, IsTrue, IsFalse, All, refl, sym, ap, subst, ◌∙◌, append-nil, arith}
+use Rattle.std.proofs.Common.{◌≡◌, ◌≢◌, ℕ, ◌<◌, ◌≤◌, ◌⊎◌, inl, inr, Bool, true, false, cond, not, nat_eq, List, [], ◌∷◌, ◌++◌, length, map, filter, Option, Some, None, Ok, Err, Result, IsTrue, IsFalse, All, refl, sym, ap, subst, ◌∙◌, append-nil, arith}
 use Rattle.std.proofs.lemmas.Bool.{cases_Bool, eqb-true, eq-eqb, and_parts, not-true}
+use Rattle.std.proofs.Math.Nat.{ℕ_set}
+use Rattle.std.proofs.lemmas.Grind.{same_number_lists}
 use Rattle.std.proofs.lemmas.Fmt.{decimal_injective}
 use Rattle.std.specs.Int.Bits.{xor_zero_l}
 use Rattle.std.proofs.lemmas.List.Elements.{All-weaker, filter-append, filter_passes}
@@ -12,11 +14,12 @@ use Rattle.lrc_code.specs.Losses.{FragmentSet, bits_set}
 use Rattle.lrc_code.proofs.NumbersLemmas.{equal_fragments}
 use Rattle.lrc_field.specs.declared.recipes.Recipe.{Recipe}
 use Rattle.lrc_field.specs.Field.{plus, times}
-use Rattle.lrc_field.specs.Recipes.{IsRecipe, read_by}
+use Rattle.lrc_field.specs.Recipes.{IsRecipe, IsFirstRecipe, read_by}
 use Rattle.lrc_field.specs.Stripes.{Bytes, IsStripe, Determines, outside, sum_of, numbers_of}
 use Rattle.lrc_field.proofs.FieldLemmas.{zero_times}
 use Rattle.lrc_field.proofs.ValueLemmas.{sums_agree}
 use Rattle.lrc_field.proofs.MemberLemmas.{fragments_below}
+use Rattle.lrc_field.proofs.FirstRecipeLemmas.{one_first_recipe}
 use Rattle.lrc_coding.specs.declared.refusal.RecipeRefusal.{RecipeRefusal}
 use Rattle.lrc_coding.specs.declared.refusal.RecipeRefusal.TheVariants.{NoMask, NoFragment, NotMissing, Undetermined}
 use Rattle.lrc_coding.specs.Answers.{coefficient_in, IsNumberOf, IsAnswerTo, IsAnswer}
@@ -90,6 +93,18 @@ module _ (c : ℕ → ℕ) where
       ] in
       is.exact v one ∙ sums_agree c v w (fragment_count code) one.bytes other.bytes agree (numbers_of code) (fragments_below code) ∙ sym (is.exact w other)
 
+-- ---- recipes
+
+is_sixteen : (xs : List ℕ) → IsProp (length xs ≡ 16)
+is_sixteen xs = ℕ_set (length xs) 16
+
+-- recipes with the same coefficients are equal
+same_recipe : (r s : Recipe) → ((g : ℕ) → coefficient_in r g ≡ coefficient_in s g) → r ≡ s
+same_recipe r s same =
+    let equal = same_number_lists r.coefficients s.coefficients (r.sixteen ∙ sym s.sixteen) (λ k low. same k) in
+    subst (λ xs. (h : length xs ≡ 16) → r ≡ record { coefficients = xs; sixteen = h }) equal
+    (λ h. ap (λ (e : length r.coefficients ≡ 16). record { coefficients = r.coefficients; sixteen = e }) (is_sixteen r.coefficients r.sixteen h)) s.sixteen
+
 -- ---- answers
 
 module _ (code : Code) (word : List ℕ) where
@@ -108,7 +123,12 @@ module _ (code : Code) (word : List ℕ) where
     either_to r (NotMissing g) (f, missing, is) refused = clash (bits_set bits) f g.value missing.0 refused.0 missing.1 refused.1
     either_to r (Undetermined g) (f, missing, is) refused =
         let same = same_number f g.value missing.0 refused.0.0 in
-        refused.1 (subst (λ n. Determines code (outside (bits_set bits)) n) same (determined (coefficient_in r) code (bits_set bits) f is))
+        refused.1 (subst (λ n. Determines code (outside (bits_set bits)) n) same (determined (coefficient_in r) code (bits_set bits) f is.recipe))
+
+    recipe_to : (r s : Recipe) → IsAnswerTo code bits word (Ok r) → IsAnswerTo code bits word (Ok s) → r ≡ s
+    recipe_to r s (f, missing, is) (g, missing_too, is_too) =
+        let other = subst (λ n. IsFirstRecipe code (bits_set bits) n (coefficient_in s)) (same_number g f missing_too.0 missing.0) is_too in
+        same_recipe r s (one_first_recipe code (bits_set bits) f (coefficient_in r) (coefficient_in s) is other)
 
     one_to : (d e : RecipeRefusal) → IsAnswerTo code bits word (Err d) → IsAnswerTo code bits word (Err e) → d ≡ e
     one_to NoMask e a b = absurd a
@@ -128,6 +148,10 @@ module _ (code : Code) (word : List ℕ) where
   pub either : (mask : Option ℕ) (r : Recipe) (e : RecipeRefusal) → IsAnswer code mask word (Ok r) → IsAnswer code mask word (Err e) → ⊥
   either (Some bits) r e told refused = either_to bits r e told refused
   either None r e told refused = let never : ◌≡◌ {A = Result Recipe RecipeRefusal} (Ok r) (Err NoMask) = told in cc
+
+  pub one_recipe : (mask : Option ℕ) (r s : Recipe) → IsAnswer code mask word (Ok r) → IsAnswer code mask word (Ok s) → r ≡ s
+  one_recipe (Some bits) r s a b = recipe_to bits r s a b
+  one_recipe None r s a b = absurd (let never : ◌≡◌ {A = Result Recipe RecipeRefusal} (Ok r) (Err NoMask) = a in cc)
 
   pub one : (mask : Option ℕ) (d e : RecipeRefusal) → IsAnswer code mask word (Err d) → IsAnswer code mask word (Err e) → d ≡ e
   one (Some bits) d e a b = one_to bits d e a b

@@ -4,7 +4,7 @@ use Rattle.lrc_code.specs.declared.codes.Code.{Code}
 use Rattle.lrc_code.specs.Codes.{fragment_count}
 use Rattle.lrc_code.specs.Losses.{bits_set}
 use Rattle.lrc_field.specs.declared.recipes.Recipe.{Recipe}
-use Rattle.lrc_field.specs.Recipes.{IsRecipe}
+use Rattle.lrc_field.specs.Recipes.{IsFirstRecipe}
 use Rattle.lrc_field.specs.Stripes.{Determines, outside}
 use Rattle.lrc_coding.specs.declared.refusal.RecipeRefusal.{RecipeRefusal}
 use Rattle.lrc_coding.specs.declared.refusal.RecipeRefusal.TheVariants.{NoMask, NoFragment, NotMissing, Undetermined}
@@ -23,7 +23,7 @@ IsMissing code bits word f = IsNumberOf code word f × IsTrue (bits_set bits f)
 
 -- the answer to a set of losses, as bits, and to a word for a fragment
 abbrev pub IsAnswerTo : Code → ℕ → List ℕ → Result Recipe RecipeRefusal → Type 0
-IsAnswerTo code bits word (Ok recipe) = (f : ℕ) × IsMissing code bits word f × IsRecipe code (bits_set bits) f (coefficient_in recipe)
+IsAnswerTo code bits word (Ok recipe) = (f : ℕ) × IsMissing code bits word f × IsFirstRecipe code (bits_set bits) f (coefficient_in recipe)
 IsAnswerTo code bits word (Err NoMask) = ⊥
 IsAnswerTo code bits word (Err NoFragment) = (f : ℕ) → f < fragment_count code → word ≢ decimal f
 IsAnswerTo code bits word (Err (NotMissing f)) = IsNumberOf code word f.value × IsFalse (bits_set bits f.value)

@@ -20,10 +20,12 @@ pub fn rows_rebuild_the_fragment()
         v f ≡ sum_of c v (map (λ g. g.value) (fragments_read c)) }
 {}
 
-/// A question that is answered by a recipe is answered by no refusal, and another one by one refusal only.
+/// A question that is answered by a recipe is answered by no refusal and no other recipe, and another one by one refusal only.
 pub fn answers_are_of_one_kind()
     ensures either { (code : Code) (mask : Option ℕ) (word : List ℕ) (r : AnyRecipe) (e : AnyRefusal) →
         IsAnswer code mask word (Ok r) → ¬ IsAnswer code mask word (Err e) }
+    ensures recipe { (code : Code) (mask : Option ℕ) (word : List ℕ) (r s : AnyRecipe) →
+        IsAnswer code mask word (Ok r) → IsAnswer code mask word (Ok s) → r ≡ s }
     ensures one { (code : Code) (mask : Option ℕ) (word : List ℕ) (d e : AnyRefusal) →
         IsAnswer code mask word (Err d) → IsAnswer code mask word (Err e) → d ≡ e }
 {}

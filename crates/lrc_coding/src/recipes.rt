@@ -9,8 +9,8 @@ use lrc_code::{Code, Fragment, LossMask};
 use lrc_field::Recipe;
 use lrc_front::number_in_front;
 
-/// Returns the recipe for the fragment that the word names, where the fragments of the mask are missing. The mask is `None`
-/// where no set of losses was given.
+/// Returns the recipe for the fragment that the word names, where the fragments of the mask are missing: of those that
+/// read fewest the one whose fragments come first, in rising order. The mask is `None` where no set of losses was given.
 ///
 /// # Errors
 ///
