@@ -6,6 +6,7 @@ mod command;
 mod entry;
 mod fragment;
 mod home;
+pub mod laws;
 mod lease;
 mod level;
 mod mode;

@@ -1,8 +1,9 @@
 ghost use Rattle.std.specs.Prelude.{◌≡◌, ◌<◌, ◌↔◌, IsSome, IfSome};
 ghost use Rattle.lrc_code.specs.Codes.{fragment_count};
 ghost use Rattle.lrc_code.specs.Losses.{bits_set};
+ghost use Rattle.lrc_field.specs.Recipes.{only_itself};
 ghost use Rattle.lrc_field.specs.Stripes.{Determines, outside};
-ghost use Rattle.lrc_records.specs.Recipes.{IsRecipeOf, encoded_recipe, only_itself};
+ghost use Rattle.lrc_records.specs.Recipes.{IsRecipeOf, encoded_recipe};
 
 use crate::code_number;
 use lrc_code::{Code, FRAGMENTS, Fragment, LossMask};
@@ -20,7 +21,8 @@ pub struct LrcRecipe {
 }
 
 impl LrcRecipe {
-    /// The recipe of a fragment where some are missing. A fragment that is not missing is copied: its own coefficient is 1.
+    /// The recipe of a fragment where some are missing: of those that read fewest the one whose fragments come first, in
+    /// rising order. A fragment that is not missing is copied: its own coefficient is 1.
     /// `None` exactly if what is not missing does not determine the fragment, or the code has no such fragment.
     pub fn of(code: Code, missing: LossMask, fragment: Fragment) -> Option<LrcRecipe>
         ensures some { IsSome result ↔ ((fragment.value < fragment_count code) × Determines code (outside (bits_set missing.bits)) fragment.value) }
