@@ -1,14 +1,14 @@
-ghost use Rattle.std.specs.Prelude.{◌≡◌, ◌≢◌, ℕ, ◌<◌, length, get_or, ◌++◌, map, IfErr, OnOk, IsTrue};
+ghost use Rattle.std.specs.Prelude.{◌≡◌, ◌≢◌, ℕ, ◌<◌, length, get_or, ◌++◌, map, IfErr, OnOk, IfSome, IfNone, IsTrue};
 ghost use Rattle.lrc_code.specs.Codes.{fragment_count};
 ghost use Rattle.lrc_code.specs.Losses.{FragmentSet};
 ghost use Rattle.lrc_field.specs.Stripes.{Bytes, IsStripe, data_count, data_of, in_parity, sum_of};
 ghost use Rattle.lrc_field.specs.Recipes.{IsRecipe, read_by};
 ghost use Rattle.lrc_coder.specs.Buffers.{read, written, places, buffer_at, bytes_at, each_of, AreLong, IsSum};
-ghost use Rattle.lrc_coder.specs.Coding.{AreCounted, AreEven, IsEncoded, IsRebuilt, IsEncodeRefusal, IsRebuildRefusal};
+ghost use Rattle.lrc_coder.specs.Coding.{AreCounted, AreEven, AreOwn, IsForeign, IsEncoded, IsRebuilt, IsEncodeRefusal, IsRebuildRefusal};
 
 use crate::CodingError;
 use crate::sums::put_sum;
-use lrc_code::{Code, Fragment};
+use lrc_code::{Code, FRAGMENTS, Fragment};
 use lrc_field::{DATA, Recipe, row};
 
 /// The number of parities of a stripe of either code. They are numbered after the data.
@@ -100,8 +100,9 @@ fn put_parity(code: Code, number: usize, data_fragments: &[&[u8]], parity: &mut 
 /// the others are not read, and may be empty. If the recipe is one of a fragment, or copies it, and what is read are bytes
 /// of a stripe, that fragment's bytes are written.
 ///
-/// It returns `Count` if the buffers are not as many as the fragments of the code, and else `Length` with the first
-/// fragment that is read and whose buffer is not as long as `rebuilt`. With an error nothing is written.
+/// It returns `NoFragment` with the first fragment that the recipe reads and the code lacks, if there is one: it is a recipe
+/// of the other code. Else it returns `Count` if the buffers are not as many as the fragments of the code, and else `Length`
+/// with the first fragment that is read and whose buffer is not as long as `rebuilt`. With an error nothing is written.
 pub fn rebuild(
     code: Code,
     recipe: &Recipe,
@@ -111,6 +112,9 @@ pub fn rebuild(
     ensures rebuilt { OnOk result (IsRebuilt code recipe.now.coefficients (read fragments.now) rebuilt.old rebuilt.new) }
     ensures refused { IfErr result (λ e. IsRebuildRefusal code recipe.now.coefficients (read fragments.now) (length rebuilt.old) e × (rebuilt.new ≡ rebuilt.old)) }
 {
+    if let Some(fragment) = first_foreign(code, recipe) {
+        return Err(CodingError::NoFragment(fragment));
+    }
     if fragments.len() != code.fragments() as usize {
         return Err(CodingError::Count);
     }
@@ -122,4 +126,18 @@ pub fn rebuild(
     }
     put_sum(&recipe.coefficients, fragments, rebuilt);
     Ok(())
+}
+
+/// Returns the first fragment that the recipe reads and the code lacks.
+fn first_foreign(code: Code, recipe: &Recipe) -> Option<Fragment>
+    ensures some { IfSome result (λ f. IsForeign code recipe.now.coefficients f.value) }
+    ensures none { IfNone result (AreOwn code recipe.now.coefficients 16) }
+{
+    for number in code.fragments()..FRAGMENTS as u8 {
+        let fragment = Fragment { value: number };
+        if recipe.coefficient(fragment) != 0 {
+            return Some(fragment);
+        }
+    }
+    None
 }

@@ -7,6 +7,9 @@ pub enum CodingError {
     /// The buffers are not as many as the code has fragments.
     #[error("the buffers are not as many as the fragments of the code")]
     Count,
+    /// The recipe reads this fragment, which the code lacks.
+    #[error("the code has no fragment {0:?}")]
+    NoFragment(Fragment),
     /// The buffer of this fragment has another length than the others.
     #[error("the buffer of fragment {0:?} has another length")]
     Length(Fragment),

@@ -20,6 +20,7 @@ returns-clause-rebuilt c =
     let last = c.fragments-number-end.ensures.value in
     let sum = subst (λ n. IsSum coefficients (read fragments) n c.args.rebuilt.now c.put_sum.new.sum) count c.put_sum.ensures in
     record {
+      own = c.in_default.ensures.none;
       counted = length-map fragments (λ b. b.now) ∙ count;
       lengths = λ f low. c.loop-number.invariant f (omega (arith, low, end, last));
       sum = sum;
