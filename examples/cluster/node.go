@@ -36,6 +36,9 @@ func (n Name) place() string { return fmt.Sprintf("%d.%d", n.Stripe, n.Fragment)
 // errFenced says that a write came too late.
 var errFenced = errors.New("a newer epoch of the fragment is there")
 
+// errCut says that a file is shorter than its checksum. (No bytes have the checksum 0, so it must not be read as these)
+var errCut = errors.New("the file of the fragment is cut")
+
 // hasFence is true. (A faulty program, which only tests make, writes without the fence)
 var hasFence = true
 
@@ -149,7 +152,11 @@ func (s *Store) Read(place string) (data []byte, sum uint32, err error) {
 	if !isThere {
 		return nil, 0, os.ErrNotExist
 	}
-	if data, err = os.ReadFile(s.file(name)); err != nil || len(data) < 4 {
+	data, err = os.ReadFile(s.file(name))
+	if err == nil && len(data) < 4 {
+		err = errCut
+	}
+	if err != nil {
 		return nil, 0, err
 	}
 	return data[4:], binary.BigEndian.Uint32(data), nil

@@ -146,6 +146,37 @@ func TestADamagedFragmentIsNeitherWholeNorRead(t *testing.T) {
 	}
 }
 
+// A file is cut within its checksum, of which three bytes, two, one or none are left.
+func TestAFileThatIsCutIsDamaged(t *testing.T) {
+	folder := t.TempDir()
+	store := open(t, folder)
+	server := httptest.NewServer(store)
+	defer server.Close()
+	name := Name{1, 2, 3}
+	for length := int64(3); length >= 0; length-- {
+		if err := store.Write(name, full(7)); err != nil {
+			t.Fatal(err)
+		}
+		if err := os.Truncate(filepath.Join(folder, name.String()), length); err != nil {
+			t.Fatal(err)
+		}
+		if data, sum, err := store.Read(name.place()); err == nil {
+			t.Errorf("%d bytes are read as %q with the checksum %x: %v", length, data, sum, err)
+		}
+		if whole := store.Whole(); len(whole) != 0 {
+			t.Errorf("of %d bytes, %v is whole", length, whole)
+		}
+		answer, err := http.Get(server.URL + "/fragments/" + name.place())
+		if err != nil {
+			t.Fatal(err)
+		}
+		answer.Body.Close()
+		if answer.StatusCode != http.StatusServiceUnavailable {
+			t.Errorf("of %d bytes: %s", length, answer.Status)
+		}
+	}
+}
+
 func TestBytesThatChangedOnTheWayAreNotWritten(t *testing.T) {
 	server := httptest.NewServer(open(t, t.TempDir()))
 	defer server.Close()
