@@ -2,6 +2,11 @@
 import json
 import os
 import subprocess
+import time
+from email.utils import parsedate_to_datetime
+
+from cluster import Asker, Group, Member
+from one_member import wait_ready
 
 # Twice a second the time of day goes to another hour, and each process has other hours. The clock by which durations are
 # measured stays right, as in a machine whose time of day is set.
@@ -38,3 +43,20 @@ def build_jumping(count, build, library, room, file):
     """Builds the program, which takes a minute: all of Go's packages are compiled anew. Returns whether it could."""
     how = {"env": {**os.environ, "GOFLAGS": f"-overlay={overlay(room)}"}}
     return count.run("service/build", build, "--library", library, file, **how)
+
+
+def hours_away(program, folder):
+    """How many whole hours the time of day of a member is away, at eight moments half a second apart, as the heads of its
+    answers tell it."""
+    group = Group(program, folder, 0)
+    member, asker, found = Member(group, 1, []), Asker(5), []
+    try:
+        member.start()
+        wait_ready(asker, member)
+        for _ in range(8):
+            _, head, _ = asker.ask(member.client, "GET", "/health")
+            found.append(round((parsedate_to_datetime(head["Date"]).timestamp() - time.time()) / 3600))
+            time.sleep(0.5)
+    finally:
+        member.kill()
+    return found
