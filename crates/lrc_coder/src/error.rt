@@ -11,6 +11,6 @@ pub enum CodingError {
     #[error("the code has no fragment {0:?}")]
     NoFragment(Fragment),
     /// The buffer of this fragment has another length than the others.
-    #[error("the buffer of fragment {0:?} has another length")]
+    #[error("the buffer of fragment {number} has another length", number = .0.value)]
     Length(Fragment),
 }

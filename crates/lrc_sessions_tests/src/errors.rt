@@ -1,10 +1,16 @@
 //! The texts of errors.
 
-use lrc_code::{Fault, NodeNo};
+use lrc_code::{Fault, Fragment, NodeNo};
+use lrc_coder::CodingError;
 use lrc_topology::TopologyError;
 use std::process::Abort;
 
 fn expect_error(rt: &(impl AllocGlobal + Abort), error: TopologyError, want: &str) {
+    let text = format!(in rt.alloc(); "{error}").expect(rt, "memory");
+    assert!(rt; text.as_str() == want, "{text}");
+}
+
+fn expect_coding_error(rt: &(impl AllocGlobal + Abort), error: CodingError, want: &str) {
     let text = format!(in rt.alloc(); "{error}").expect(rt, "memory");
     assert!(rt; text.as_str() == want, "{text}");
 }
@@ -47,6 +53,10 @@ fn errors_say_what_to_mend(rt: HostRuntime) {
     for (error, want) in rows {
         expect_error(&rt, error, want);
     }
+    let want = "the buffers are not as many as the fragments of the code";
+    expect_coding_error(&rt, CodingError::Count, want);
+    let want = "the buffer of fragment 13 has another length";
+    expect_coding_error(&rt, CodingError::Length(Fragment { value: 13 }), want);
     expect_fault(&rt, Fault::OutOfMemory, 1, "out of memory");
     expect_fault(&rt, Fault::HistoryFull, 2, "the history is full");
 }
