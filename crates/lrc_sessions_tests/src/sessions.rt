@@ -1,4 +1,4 @@
-//! Sessions of a manager over twenty nodes: calls by hand, and which sessions end their manager.
+//! Sessions of a manager over twenty-one nodes: calls by hand, and which sessions end their manager.
 
 ghost use Rattle.std.specs.Prelude.{◌≤◌};
 
@@ -12,7 +12,6 @@ mod scenes;
 
 use lrc_book::Command;
 use lrc_code::{Fault, SessionNo, StripeNo};
-use lrc_samples::twenty_nodes;
 use lrc_sessions::{Closing, FinishError, Manager, Naming, Parts, Receipt, Session};
 use lrc_topology::Topology;
 use std::alloc::Global;
@@ -30,9 +29,29 @@ const ONE: StripeNo = StripeNo { value: 1 };
 
 const TWO: StripeNo = StripeNo { value: 2 };
 
-/// Returns twenty nodes, and has no contract on them.
+/// The highest number that a stripe has.
+const LAST: StripeNo = StripeNo { value: 4095 };
+
+/// Returns the text of the twenty nodes of `lrc_samples` and of one with the highest number. That one is in the domains of
+/// node 19, which has the lower number: so seats are taken on node 19 first.
+fn text(alloc: Global) -> Result<String, Fail> {
+    let mut text = String::new(alloc);
+    for place in 0..21u32 {
+        let number = if place < 20 { place } else { 65535 };
+        let fault = place.min(19);
+        let upgrade = fault % 10;
+        write!(
+            &mut text,
+            "[[node]]\nnumber = {number}\nfault = {fault}\nupgrade = {upgrade}\nslots = 4\n"
+        )?;
+    }
+    Ok(text)
+}
+
+/// Returns twenty-one nodes, and has no contract on them.
 fn nodes(alloc: Global) -> Result<Topology, Fail> {
-    Ok(twenty_nodes(alloc)?)
+    let text = text(alloc)?;
+    Ok(Topology::read(alloc, text.as_bytes())?)
 }
 
 fn parts(alloc: Global, count: u8) -> Result<Parts, Fail> {

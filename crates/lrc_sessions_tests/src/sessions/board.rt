@@ -1,9 +1,9 @@
-//! A keeper over twenty nodes: what viewers see of two calls.
+//! A keeper over twenty-one nodes: what viewers see of three calls.
 
 ghost use Rattle.std.specs.Prelude.{◌≡◌, [], IfOk};
 ghost use Rattle.lrc_rules.specs.Histories.{first_world};
 
-use super::{ONE, nodes};
+use super::{LAST, ONE, nodes};
 use lrc_board::{Keeper, NewLog, ViewNaming, Viewer};
 use lrc_book::{Book, Command, Level};
 use lrc_code::{NodeNo, SessionNo, StripeNo};
@@ -26,7 +26,7 @@ fn a_viewer_sees_what_it_was_shown(rt: HostRuntime) -> Result<(), Fail> {
     Ok(())
 }
 
-/// Of two viewers one is shown two calls, and the other nothing.
+/// Of two viewers one is shown three calls, and the other nothing.
 fn watch<N: ViewNaming, R: Wait + Abort>(rt: &R, alloc: Global, book: Book, log: NewLog)
     requires book { (book.history ≡ []) × (book.nodes ≡ N.topology) × (book.limit ≡ N.limit) × (book.base ≡ first_world) × (book.before ≡ 0) }
     requires log { (log.prefix.book ≡ N.log) × (log.permit.nib.key ≡ N.start) }
@@ -38,16 +38,17 @@ fn watch<N: ViewNaming, R: Wait + Abort>(rt: &R, alloc: Global, book: Book, log:
     let other = take(rt, &mut viewers);
     apply(rt, &mut keeper, Command::Place(ONE), 1);
     apply(rt, &mut keeper, Command::Fail(NodeNo { value: 3 }), 2);
+    apply(rt, &mut keeper, Command::Place(LAST), 3);
     show(&mut keeper, &mut viewer);
-    expect_count(rt, &viewer, 2);
+    expect_count(rt, &viewer, 3);
     expect_count(rt, &other, 0);
     expect_seen(rt, alloc, &mut viewer);
     close(rt, keeper.into_book(rt));
 }
 
-/// Expects two entries, and drops the book.
+/// Expects three entries, and drops the book.
 fn close(rt: &impl Abort, book: Book) {
-    assert_eq!(rt; book.history().len(), 2);
+    assert_eq!(rt; book.history().len(), 3);
 }
 
 fn show<N: ViewNaming>(keeper: &mut Keeper<N>, viewer: &mut Viewer<N>) {
@@ -59,10 +60,11 @@ fn expect_count<N: ViewNaming>(rt: &impl Abort, viewer: &Viewer<N>, count: u64) 
     assert_eq!(rt; viewer.count(), count);
 }
 
-/// Expects that the stripe has lost one fragment with node 3, and no other.
+/// Expects that the first stripe has lost one fragment with node 3 and no other, and that the last is whole.
 fn expect_seen<N: ViewNaming>(rt: &impl Abort, alloc: Global, viewer: &mut Viewer<N>) {
     assert!(rt; level(rt, viewer, ONE) == Some(Level::AtRisk(2)));
-    for (value, seats) in [(3, Some(0)), (4, Some(1)), (99, None)] {
+    assert!(rt; level(rt, viewer, LAST) == Some(Level::Whole));
+    for (value, seats) in [(3, Some(0)), (4, Some(2)), (99, None), (u16::MAX, Some(0))] {
         assert_eq!(rt; load(rt, viewer, NodeNo { value }), seats, "on {value}");
     }
     expect_at_risk(rt, alloc, viewer, (ONE, Level::AtRisk(2)));

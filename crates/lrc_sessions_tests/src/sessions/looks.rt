@@ -1,7 +1,7 @@
 //! What sessions see of each other's calls, without the lock.
 
 use super::scenes::{Pair, expect_pair};
-use super::{ONE, TWO, call, expect_fronts, meet};
+use super::{LAST, ONE, call, expect_fronts, meet};
 use lrc_book::{Command, Level};
 use lrc_code::{NodeNo, StripeNo};
 use lrc_sessions::{Manager, Naming, Session};
@@ -88,7 +88,7 @@ pub(super) fn look_around<N: Naming, R: Wait + Abort>(
     expect_fronts(rt, first, second, (1, 0));
     expect_whole(rt, first, ONE, 1);
     expect_whole(rt, second, ONE, 1);
-    call(rt, manager, second, Command::Place(TWO));
+    call(rt, manager, second, Command::Place(LAST));
     meet(rt, manager, first, second, 2);
     expect_both_placed(rt, alloc, first);
 }
@@ -105,9 +105,10 @@ fn expect_whole<N: Naming>(
 
 /// Expects that a session sees the second stripe, the seats on a node of it alone and on one of both, and no stripe at risk.
 fn expect_both_placed<N: Naming>(rt: &impl Abort, alloc: Global, session: &mut Session<N>) {
-    expect_whole(rt, session, TWO, 2);
+    expect_whole(rt, session, LAST, 2);
     expect_load(rt, session, 15, Some(1));
     expect_load(rt, session, 0, Some(2));
+    expect_load(rt, session, u16::MAX, Some(0));
     expect_load(rt, session, 99, None);
     assert!(rt; at_risk(rt, alloc, session) == (2, 0));
 }
