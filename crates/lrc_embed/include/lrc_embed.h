@@ -39,7 +39,7 @@ extern "C" {
 // The version of the interface, which rises with every change of what this header declares: with each function, struct, field
 // and number that is new or means something else. lrc_embed_version() returns that of the library. Compare them at the start,
 // and go on only if they are the same. An lrc_entry has one layout in all versions, so that saved ones stay readable.
-#define LRC_EMBED_VERSION 3
+#define LRC_EMBED_VERSION 4
 
 // The version of the rules: of what each command returns and changes. lrc_embed_rules_version() returns that of the library.
 // A log replays alike in all libraries of one version of the rules. In those of another one a reply may differ, and an image

@@ -55,6 +55,8 @@ fn errors_say_what_to_mend(rt: HostRuntime) {
     }
     let want = "the buffers are not as many as the fragments of the code";
     expect_coding_error(&rt, CodingError::Count, want);
+    let want = "the code has no fragment 13";
+    expect_coding_error(&rt, CodingError::NoFragment(Fragment { value: 13 }), want);
     let want = "the buffer of fragment 13 has another length";
     expect_coding_error(&rt, CodingError::Length(Fragment { value: 13 }), want);
     expect_fault(&rt, Fault::OutOfMemory, 1, "out of memory");
