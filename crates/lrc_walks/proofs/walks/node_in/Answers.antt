@@ -7,8 +7,8 @@ use Rattle.lrc_walks.specs.WalkRows.{node_record}
 use Rattle.lrc_walks.proofs.RowLemmas.{node-known}
 use Rattle.lrc_walks.proofs.walks.node_in.Goals as goal
 
-pub node_row-requires : goal.node_row-requires
-node_row-requires c =
+pub node_record-requires : goal.node_record-requires
+node_record-requires c =
     let here : slice_get c.as_slice.result.now c.args.position ≡ Some c.in_ok-node.node = search rules in
     let all : c.as_slice.result.now ≡ c.args.book.now.nodes = c.as_slice.ensures ∙ c.nodes-nodes.ensures.rest ∙ c.topology.ensures in
     let got : slice_get c.args.book.now.nodes c.args.position ≡ Some c.in_ok-node.node = ap (λ (ns : List NodeInfo). slice_get ns c.args.position) (sym all) ∙ here in
