@@ -865,6 +865,19 @@ static void code_stripes(uint8_t code, unsigned data_count) {
     WANT(lrc_embed_rebuild(&recipe, fragments, data_count + 4, rebuilt, LONG) == LRC_UNEVEN && rebuilt[0] == '#');
     fragments[1].length = LONG, recipe.code = 0;
     WANT(lrc_embed_rebuild(&recipe, fragments, data_count + 4, rebuilt, LONG) == LRC_OUT_OF_RANGE && rebuilt[0] == '#');
+    if (code == LRC_NARROW) { // (a recipe of the other code, which reads a fragment that this one lacks)
+        WANT(lrc_embed_recipe_of(LRC_WIDE, 3, 0, &recipe) == LRC_DONE && recipe.coefficients[14] != 0);
+        recipe.code = code;
+        WANT(lrc_embed_rebuild(&recipe, fragments, data_count + 4, rebuilt, LONG) == LRC_OUT_OF_RANGE && rebuilt[0] == '#');
+        WANT(lrc_embed_rebuild(&recipe, fragments, data_count + 3, rebuilt, LONG) == LRC_OUT_OF_RANGE && rebuilt[0] == '#');
+    }
+    for (uint8_t f = 0; f < data_count + 4; f++) { // (a copy)
+        lrc_bytes given[LRC_FRAGMENTS] = {0};
+        given[f] = fragments[f];
+        WANT(lrc_embed_recipe_of(code, 0, f, &recipe) == LRC_DONE);
+        WANT(lrc_embed_rebuild(&recipe, given, data_count + 4, rebuilt, LONG) == LRC_DONE && memcmp(rebuilt, bytes[f], LONG) == 0);
+    }
+    WANT(lrc_embed_recipe_of(code, 1, 0, &recipe) == LRC_DONE);
     for (unsigned g = 0; g < LRC_FRAGMENTS; g++) fragments[g] = (lrc_bytes){0, 0};
     recipe.code = code;
     WANT(lrc_embed_rebuild(&recipe, fragments, data_count + 4, 0, 0) == LRC_DONE);

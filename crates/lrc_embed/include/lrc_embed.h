@@ -66,7 +66,7 @@ enum lrc_status {
     LRC_DONE = 0,
     LRC_IS_CLOSED = 1,     // the handle is closed
     LRC_IS_OPEN = 2,       // the handle to be opened is open
-    LRC_OUT_OF_RANGE = 3,  // a session, a kind of command, a stripe, a fragment or an outage is out of its range
+    LRC_OUT_OF_RANGE = 3,  // a session, a kind of command, a stripe, a fragment, a code or an outage is out of its range
     LRC_UNKNOWN = 4,       // there is no such stripe, lease, node, entry or name, or nothing of what is asked for
     LRC_FULL = 5,          // the history has LRC_HISTORY_LIMIT entries; of lrc_embed_forget and lrc_embed_image: a number is
                            // at its end
@@ -618,7 +618,8 @@ uint32_t lrc_embed_refusal_name(uint8_t refusal, uint8_t *text, size_t room, siz
 // The recipe of a fragment of a stripe of a code, where some are missing; fragment f is bit f of `missing`. A fragment whose
 // bit is not set is copied. Bits for which the code has no fragment mean nothing. DONE; OUT_OF_RANGE if there is no such code,
 // or it has no such fragment; or UNDETERMINED if what is not missing does not determine it. It reads the fragments of the local
-// group if no other of it is missing, else 12, or 6 of a narrow stripe: no fewer determine it.
+// group if no other of it is missing, else 12, or 6 of a narrow stripe: no fewer determine it. Of the sets of that size that do
+// it reads the one that comes first by its numbers in rising order, so whoever asks gets the same recipe.
 uint32_t lrc_embed_recipe_of(uint8_t code, uint16_t missing, uint8_t fragment, lrc_recipe *recipe);
 // The generator matrix of a code, row by row, with a row for each fragment and a column for each data fragment: 16 times 12
 // bytes, or 10 times 6. So ISA-L takes it, which encodes with the rows from the twelfth, or the sixth, on. DONE, with `*length`
@@ -631,7 +632,7 @@ uint32_t lrc_embed_encode(uint8_t code, const lrc_bytes *data_fragments, size_t 
                           lrc_buffer *parities, size_t parities_count);
 // Writes what a recipe makes of the fragments of a stripe, which stand by number: as many as the code has, 16 or 10. Those
 // whose coefficient is not 0 are as long as `rebuilt`. The others are not read, and may be empty. DONE; OUT_OF_RANGE if the
-// recipe's code is none; MISCOUNTED or UNEVEN, and then nothing is written.
+// recipe's code is none, or has no fragment of a coefficient that is not 0; MISCOUNTED or UNEVEN; and then nothing is written.
 uint32_t lrc_embed_rebuild(const lrc_recipe *recipe, const lrc_bytes *fragments, size_t fragments_count, uint8_t *rebuilt,
                            size_t length);
 

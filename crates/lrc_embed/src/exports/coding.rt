@@ -5,7 +5,7 @@ ghost use Rattle.lrc_coder.specs.Buffers.{read, written, places};
 ghost use Rattle.lrc_coder.specs.Coding.{AreCounted, IsEncoded, IsRebuilt};
 ghost use Rattle.lrc_code.specs.Codes.{fragment_count};
 ghost use Rattle.lrc_embed.specs.Recipes.{AtCode, IsNoCode};
-ghost use Rattle.lrc_embed.specs.Coded.{IsUneven, IsReadUneven};
+ghost use Rattle.lrc_embed.specs.Coded.{IsUneven, IsReadUneven, IsOfNoCode};
 
 use crate::status::{DONE, MISCOUNTED, OUT_OF_RANGE, UNEVEN};
 use lrc_coder::{CodingError, encode, rebuild};
@@ -33,20 +33,20 @@ pub extern "C" fn lrc_embed_encode(
     };
     match encode(code, data_fragments, parities) {
         Ok(()) => DONE,
-        Err(CodingError::Count) => MISCOUNTED,
+        Err(CodingError::Count | CodingError::NoFragment(_)) => MISCOUNTED,
         Err(CodingError::Length(_)) => UNEVEN,
     }
 }
 
 /// Writes what a recipe makes of the fragments of a stripe, which stand by number. Those that it reads are as long as
-/// `rebuilt`; the others are not read, and may be empty.
+/// `rebuilt`; the others are not read, and may be empty. A recipe is out of range if its code lacks a fragment that it reads.
 #[unsafe(no_mangle)]
 pub extern "C" fn lrc_embed_rebuild(
     recipe: &LrcRecipe,
     fragments: &[&[u8]],
     rebuilt: &mut [u8],
 ) -> u32
-    ensures range { (result ≡ 3) ↔ IsNoCode recipe.now.code }
+    ensures range { (result ≡ 3) ↔ IsOfNoCode recipe.now.code recipe.now.coefficients }
     ensures done { (result ≡ 0) → AtCode recipe.now.code (λ c. IsRebuilt c recipe.now.coefficients (read fragments.now) rebuilt.old rebuilt.new) }
     ensures miscounted { (result ≡ 12) → AtCode recipe.now.code (λ c. length fragments.now ≢ fragment_count c) }
     ensures uneven { (result ≡ 13) → AtCode recipe.now.code (λ c. IsReadUneven c recipe.now.coefficients (read fragments.now) (length rebuilt.old)) }
@@ -61,6 +61,7 @@ pub extern "C" fn lrc_embed_rebuild(
     };
     match rebuild(code, &recipe, fragments, rebuilt) {
         Ok(()) => DONE,
+        Err(CodingError::NoFragment(_)) => OUT_OF_RANGE,
         Err(CodingError::Count) => MISCOUNTED,
         Err(CodingError::Length(_)) => UNEVEN,
     }
