@@ -1,3 +1,4 @@
+pub mod CodedLemmas
 pub mod LookLemmas
 pub mod OfLemmas
 pub mod RecipeLemmas

@@ -4,6 +4,7 @@
 
 mod exports;
 mod handle;
+pub mod laws;
 mod loose;
 mod owned;
 mod status;
