@@ -7,3 +7,4 @@ pub mod FieldLemmas
 pub mod RowLemmas
 pub mod WorkLemmas
 pub mod ForecastLemmas
+pub mod ReadsLemmas

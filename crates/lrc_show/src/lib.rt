@@ -2,6 +2,7 @@
 #![tactic(auto)]
 
 mod forecast;
+pub mod laws;
 mod leases;
 mod nodes;
 mod status;
