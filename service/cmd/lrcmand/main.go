@@ -3,6 +3,7 @@
 package main
 
 import (
+	"context"
 	"crypto/tls"
 	"fmt"
 	"log"
@@ -16,7 +17,8 @@ import (
 	"lrcman/service/internal/ctl"
 	"lrcman/service/internal/engine"
 	"lrcman/service/internal/engine/raftlog"
-	"lrcman/service/internal/front"
+	"lrcman/service/internal/httpapi"
+	"lrcman/service/internal/replica"
 	"lrcman/service/internal/state"
 )
 
@@ -56,18 +58,20 @@ func run(o *options, logger *log.Logger) int {
 		logger.Print(err)
 		return statusFault
 	}
-	f := &front.Front{Engine: node, State: books, Rights: o.rights, Rates: o.rates(), Timeout: o.timeout, Tick: o.tickTime(),
-		Log: logger}
+	r := replica.New(replica.Config{Engine: node, State: books, Timeout: o.timeout, Tick: o.tickTime(), Log: logger})
 	shown := newShown(node, books, o.data)
-	f.More = shown.more()
-	f.Start()
-	server := f.Server()
-	server.Handler = shown.metrics.Wrap(f)
+	api := httpapi.New(httpapi.Config{Engine: node, State: books, Replica: r, Rights: o.rights, Rates: o.rates(), Timeout: o.timeout,
+		More: shown.more()})
+	ctx, stop := context.WithCancel(context.Background())
+	go r.Run(ctx)
+	server := api.Server()
+	server.Handler = shown.metrics.Wrap(api)
 	go serve(server, listener, config, logger)
 	logger.Printf("member %d serves %s, rules %d", o.id, o.listen, state.LibraryRules())
 	status := wait(node, logger)
 	shown.stop()
-	f.Stop()
+	stop()
+	api.Close()
 	server.Close()
 	node.Close()
 	return status

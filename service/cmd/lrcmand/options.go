@@ -19,7 +19,7 @@ import (
 	"lrcman/service/internal/book"
 	"lrcman/service/internal/engine"
 	"lrcman/service/internal/engine/raftlog"
-	"lrcman/service/internal/front"
+	"lrcman/service/internal/httpapi"
 )
 
 // options are the words of the command line.
@@ -33,7 +33,7 @@ type options struct {
 	election, timeout                       time.Duration
 	self                                    engine.Member
 	first                                   []engine.Member
-	rights                                  *front.Rights
+	rights                                  *httpapi.Rights
 }
 
 func parse(words []string) (*options, error) {
@@ -160,7 +160,7 @@ func memberOf(text string) (engine.Member, error) {
 		return engine.Member{}, fmt.Errorf("--members has N=PEER/CLIENT with commas between, and not %q", text)
 	}
 	for _, address := range []string{peer, client} {
-		if err := front.CheckAddress(address); err != nil {
+		if err := httpapi.CheckAddress(address); err != nil {
 			return engine.Member{}, fmt.Errorf("--members: an address %w", err)
 		}
 	}
@@ -176,7 +176,7 @@ func (o *options) readRights() error {
 		return err
 	}
 	defer file.Close()
-	if o.rights, err = front.ReadRights(file); err != nil {
+	if o.rights, err = httpapi.ReadRights(file); err != nil {
 		return fmt.Errorf("%s: %w", o.tokenFile, err)
 	}
 	return nil
@@ -184,11 +184,11 @@ func (o *options) readRights() error {
 
 // checkAddresses refuses ports that others reach and that ask nobody who they are.
 func (o *options) checkAddresses() error {
-	if err := front.CheckAddress(o.listen); err != nil {
+	if err := httpapi.CheckAddress(o.listen); err != nil {
 		return fmt.Errorf("--listen %w", err)
 	}
 	if o.peer != "" {
-		if err := front.CheckAddress(o.peer); err != nil {
+		if err := httpapi.CheckAddress(o.peer); err != nil {
 			return fmt.Errorf("--peer %w", err)
 		}
 	}
@@ -211,11 +211,11 @@ func isLoopback(address string) bool {
 }
 
 // rates limit the requests of each address; nil if any number may come.
-func (o *options) rates() *front.Rates {
+func (o *options) rates() *httpapi.Rates {
 	if o.rate == 0 {
 		return nil
 	}
-	return front.NewRates(o.rate)
+	return httpapi.NewRates(o.rate)
 }
 
 func (o *options) tickTime() time.Duration { return time.Duration(o.tick) * time.Second }
@@ -245,7 +245,7 @@ func (o *options) listener() (net.Listener, *tls.Config, error) {
 	if err != nil {
 		return nil, nil, err
 	}
-	return front.Limit(listener), config, nil
+	return httpapi.Limit(listener), config, nil
 }
 
 // tls reads the certificate anew for each handshake, so that a new one is taken without a restart.

@@ -7,7 +7,7 @@ import (
 
 	"lrcman/service/internal/book"
 	"lrcman/service/internal/engine"
-	"lrcman/service/internal/front"
+	"lrcman/service/internal/httpapi"
 	"lrcman/service/internal/metrics"
 	"lrcman/service/internal/page"
 	"lrcman/service/internal/state"
@@ -34,10 +34,10 @@ func newShown(e engine.Engine, books *state.State, data string) *shown {
 }
 
 // more are the paths at which it is.
-func (s *shown) more() []front.More {
-	return []front.More{
-		{Path: "", Role: front.Nobody, Query: "book", Answer: s.page.Page},
-		{Path: "events", Role: front.Look, Query: "book", Answer: s.page.Events},
-		{Path: "metrics", Role: front.Look, Answer: s.metrics.Handler().ServeHTTP},
+func (s *shown) more() []httpapi.More {
+	return []httpapi.More{
+		{Path: "", Role: httpapi.Nobody, Query: "book", Answer: s.page.Page},
+		{Path: "events", Role: httpapi.Look, Query: "book", Answer: s.page.Events},
+		{Path: "metrics", Role: httpapi.Look, Answer: s.metrics.Handler().ServeHTTP},
 	}
 }

@@ -1,25 +1,30 @@
-package front
+package httpapi
 
 import (
 	"net/http"
 	"runtime"
-	"sync/atomic"
 
 	"lrcman/service/internal/book"
 	"lrcman/service/internal/engine"
+	"lrcman/service/internal/replica"
 	"lrcman/service/internal/state"
 )
 
-func (q *request) health() error {
-	status := q.Engine.Status()
-	age := sayAge(q.Front, atomic.LoadInt64(&q.fresh))
-	if status.Leader == 0 || age < 0 || age > 5*freshTime.Milliseconds() {
+// group is the requests about this member and the others.
+type group struct {
+	engine  engine.Engine
+	replica *replica.Replica
+	refused *tally
+}
+
+func (g *group) health(q *request) error {
+	if !g.replica.KeepsUp() {
 		return engine.ErrNoLeader
 	}
 	return q.say(http.StatusOK, map[string]bool{"ok": true})
 }
 
-func (q *request) version() error {
+func (g *group) version(q *request) error {
 	return q.say(http.StatusOK, struct {
 		Service   int    `json:"service"`
 		Form      int    `json:"form"`
@@ -29,21 +34,21 @@ func (q *request) version() error {
 	}{1, state.Form, book.Interface(), state.LibraryRules(), runtime.Version()})
 }
 
-func (q *request) status() error {
+func (g *group) status(q *request) error {
 	return q.say(http.StatusOK, struct {
 		engine.Status
 		Age     int64          `json:"age_ms"`
 		Rules   uint32         `json:"rules"`
 		Refused map[int]uint64 `json:"refused"`
-	}{q.Engine.Status(), sayAge(q.Front, atomic.LoadInt64(&q.fresh)), state.LibraryRules(), q.Refused()})
+	}{g.engine.Status(), g.replica.Age(g.replica.Freshness()), state.LibraryRules(), g.refused.counts()})
 }
 
-func (q *request) members() error {
+func (g *group) members(q *request) error {
 	type row struct {
 		engine.Member
 		Leader bool `json:"leader"`
 	}
-	status := q.Engine.Status()
+	status := g.engine.Status()
 	rows := []row{}
 	for _, member := range status.Members {
 		rows = append(rows, row{member, member.ID == status.Leader})
@@ -51,7 +56,7 @@ func (q *request) members() error {
 	return q.say(http.StatusOK, map[string][]row{"members": rows})
 }
 
-func (q *request) memberID() (uint64, error) {
+func memberID(q *request) (uint64, error) {
 	id, err := book.ParseNumber(q.names["id"], engine.MostID)
 	if err != nil || id == 0 {
 		return 0, bad("the number of a member is 1 to %d: %q", engine.MostID, q.names["id"])
@@ -59,8 +64,8 @@ func (q *request) memberID() (uint64, error) {
 	return id, nil
 }
 
-func (q *request) addMember() error {
-	id, err := q.memberID()
+func (g *group) addMember(q *request) error {
+	id, err := memberID(q)
 	if err != nil {
 		return err
 	}
@@ -75,38 +80,38 @@ func (q *request) addMember() error {
 	if err != nil {
 		return err
 	}
-	if err := q.Engine.Add(q.ctx, member); err != nil {
+	if err := g.engine.Add(q.ctx, member); err != nil {
 		return err
 	}
-	return q.members()
+	return g.members(q)
 }
 
-func (q *request) removeMember() error {
-	id, err := q.memberID()
+func (g *group) removeMember(q *request) error {
+	id, err := memberID(q)
 	if err != nil {
 		return err
 	}
-	if err := q.Engine.Remove(q.ctx, id); err != nil {
+	if err := g.engine.Remove(q.ctx, id); err != nil {
 		return err
 	}
-	return q.members()
+	return g.members(q)
 }
 
 // lead answers once the member of the path leads.
-func (q *request) lead() error {
-	id, err := q.memberID()
+func (g *group) lead(q *request) error {
+	id, err := memberID(q)
 	if err != nil {
 		return err
 	}
-	if err := q.Engine.Lead(q.ctx, id); err != nil {
+	if err := g.engine.Lead(q.ctx, id); err != nil {
 		return err
 	}
-	return q.members()
+	return g.members(q)
 }
 
-func (q *request) snapshot() error {
-	if err := q.Engine.Snapshot(); err != nil {
+func (g *group) snapshot(q *request) error {
+	if err := g.engine.Snapshot(); err != nil {
 		return err
 	}
-	return q.status()
+	return g.status(q)
 }

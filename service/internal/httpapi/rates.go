@@ -1,4 +1,4 @@
-package front
+package httpapi
 
 import (
 	"math"
@@ -65,12 +65,12 @@ func (r *Rates) forget(now time.Time) {
 }
 
 // limitRate refuses a request of an address that makes too many.
-func (q *request) limitRate() error {
-	host, _, err := net.SplitHostPort(q.r.RemoteAddr)
+func (a *API) limitRate(r *http.Request) error {
+	host, _, err := net.SplitHostPort(r.RemoteAddr)
 	if err != nil {
-		host = q.r.RemoteAddr
+		host = r.RemoteAddr
 	}
-	if !q.Rates.take(host) {
+	if !a.cfg.Rates.take(host) {
 		return &failure{Status: http.StatusTooManyRequests, Words: "too many requests come from this address"}
 	}
 	return nil

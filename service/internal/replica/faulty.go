@@ -3,7 +3,7 @@
 // With this tag the program does what it must never do, so that service/harness can be seen to find it. service/build never
 // sets it.
 
-package front
+package replica
 
 import (
 	"os"
@@ -16,16 +16,16 @@ func init() {
 	case "early":
 		tellEarly = peekAnswer
 	case "fresh":
-		sayAge = func(*Front, int64) int64 { return 0 }
+		sayAge = func(*Replica, int64) int64 { return 0 }
 	}
 }
 
 // peekAnswer answers a call with what it would be told if nothing came between, before it is in the log.
-func peekAnswer(f *Front, item *state.Item) (answer state.Answer, ok bool) {
+func peekAnswer(r *Replica, item *state.Item) (answer state.Answer, ok bool) {
 	if item.Action != state.Call {
 		return answer, false
 	}
-	err := f.State.Look(item.Book, func(view *state.View) (err error) {
+	err := r.cfg.State.Look(item.Book, func(view *state.View) (err error) {
 		answer.Made, answer.Opens = view.Stand.Made+1, view.Stand.Opens
 		answer.Reply, err = view.Peek(item.Session, item.Command)
 		return err

@@ -1,4 +1,4 @@
-package front
+package httpapi
 
 import (
 	"encoding/json"
@@ -17,7 +17,14 @@ const ofStream = 256
 // keepAlive is how often a stream in which nothing comes gets an empty line.
 const keepAlive = 15 * time.Second
 
-func (q *request) log() error {
+// logs are the requests for entries of books, of which some are streams.
+type logs struct {
+	state   *state.State
+	streams chan struct{}
+	stop    <-chan struct{} // closed when streams are to end
+}
+
+func (l *logs) answer(q *request) error {
 	from, err := book.ParseNumber(q.query.Get("from"), math.MaxUint64)
 	if q.query.Get("from") == "" {
 		from, err = 0, nil
@@ -26,19 +33,19 @@ func (q *request) log() error {
 		return bad("the parameter \"from\" %v", err)
 	}
 	select {
-	case q.streams <- struct{}{}:
-		defer func() { <-q.streams }()
+	case l.streams <- struct{}{}:
+		defer func() { <-l.streams }()
 	default:
 		return &failure{Status: http.StatusTooManyRequests, Words: fmt.Sprintf("%d streams are open already", mostStreams)}
 	}
-	first, err := q.entries(from)
+	first, err := l.entries(q.names["book"], from)
 	if err != nil {
 		return err
 	}
 	q.w.Header().Set("Content-Type", "application/x-ndjson")
 	q.w.Header().Set("Cache-Control", "no-store")
 	q.w.WriteHeader(http.StatusOK)
-	q.stream(from, first)
+	l.stream(q, from, first)
 	return nil
 }
 
@@ -48,8 +55,8 @@ type part struct {
 	grown, removed <-chan struct{}
 }
 
-func (q *request) entries(from uint64) (next part, err error) {
-	err = q.State.Look(q.names["book"], func(view *state.View) (err error) {
+func (l *logs) entries(name string, from uint64) (next part, err error) {
+	err = l.state.Look(name, func(view *state.View) (err error) {
 		next.grown, next.removed = view.Grown(), view.Removed()
 		next.rows, err = view.Entries(from, ofStream)
 		return err
@@ -58,8 +65,8 @@ func (q *request) entries(from uint64) (next part, err error) {
 }
 
 // follow is the part behind another one, unless the book was removed: one of its name is another book.
-func (q *request) follow(before part, from uint64) (part, error) {
-	next, err := q.entries(from)
+func (l *logs) follow(name string, before part, from uint64) (part, error) {
+	next, err := l.entries(name, from)
 	select {
 	case <-before.removed:
 		return next, state.ErrNoBook
@@ -69,17 +76,17 @@ func (q *request) follow(before part, from uint64) (part, error) {
 }
 
 // stream writes entries, and waits for further ones if the client follows. What goes wrong is the last line.
-func (q *request) stream(from uint64, now part) {
+func (l *logs) stream(q *request, from uint64, now part) {
 	for {
 		if !q.writeEntries(from, now.rows) {
 			return
 		}
 		from += uint64(len(now.rows))
-		if len(now.rows) == 0 && !q.wait(now.grown) {
+		if len(now.rows) == 0 && !l.wait(q, now.grown) {
 			return
 		}
 		var err error
-		if now, err = q.follow(now, from); err != nil {
+		if now, err = l.follow(q.names["book"], now, from); err != nil {
 			text, _ := json.Marshal(failureOf(err))
 			q.w.Write(append(text, '\n'))
 			return
@@ -110,7 +117,7 @@ func (q *request) pass(text []byte) bool {
 }
 
 // wait returns true when an entry has come, and false when the stream is over.
-func (q *request) wait(grown <-chan struct{}) bool {
+func (l *logs) wait(q *request, grown <-chan struct{}) bool {
 	if q.query.Get("follow") != "1" {
 		return false
 	}
@@ -124,7 +131,7 @@ func (q *request) wait(grown <-chan struct{}) bool {
 			}
 		case <-q.r.Context().Done():
 			return false
-		case <-q.stop:
+		case <-l.stop:
 			return false
 		}
 	}

@@ -1,92 +1,60 @@
-package front
+package httpapi
 
 import (
-	"context"
 	"fmt"
 	"math"
 	"net/http"
 	"strconv"
 	"strings"
-	"sync/atomic"
-	"time"
 
 	"lrcman/service/internal/book"
+	"lrcman/service/internal/replica"
 	"lrcman/service/internal/state"
 )
 
-// refresh asks now and then whether this member is up to date, so that looks can tell how old they may be.
-func (f *Front) refresh() {
-	for {
-		ctx, cancel := context.WithTimeout(context.Background(), f.Timeout)
-		f.barrier(ctx) // (if nobody answers, what looks tell grows older)
-		cancel()
-		f.saveChange()
-		select {
-		case <-time.After(freshTime):
-		case <-f.stop:
-			return
-		}
-	}
-}
-
-// barrier waits until all that was told before is applied here, and notes from when that is.
-func (f *Front) barrier(ctx context.Context) error {
-	asked := int64(time.Since(f.begun))
-	if err := f.Engine.Barrier(ctx); err != nil {
-		return err
-	}
-	for {
-		before := atomic.LoadInt64(&f.fresh)
-		if before >= asked || atomic.CompareAndSwapInt64(&f.fresh, before, asked) {
-			return nil
-		}
-	}
+// looks are the requests that look at books.
+type looks struct {
+	state   *state.State
+	replica *replica.Replica
 }
 
 // newness tells how new a look is.
 type newness struct {
 	Index uint64 `json:"index"`
 	Age   int64  `json:"age_ms"`
-	fresh int64
-}
-
-// sayAge is the age that a look is told to have; a faulty program, which only tests make, tells another one.
-var sayAge = func(f *Front, fresh int64) int64 {
-	if fresh == 0 {
-		return -1
-	}
-	return int64(math.Ceil(float64(int64(time.Since(f.begun))-fresh) / 1e6))
+	fresh replica.Freshness
 }
 
 // begin is called before a look is taken: first of all it waits until this member is up to date, if that is asked for.
-func (q *request) begin() (newness, error) {
+func (l *looks) begin(q *request) (newness, error) {
 	if q.query.Get("now") == "1" {
-		if err := q.barrier(q.ctx); err != nil {
+		if err := l.replica.Barrier(q.ctx); err != nil {
 			return newness{}, err
 		}
 	}
-	return newness{Index: q.Engine.Status().Applied, fresh: atomic.LoadInt64(&q.fresh)}, nil
+	fresh := l.replica.Freshness()
+	return newness{Index: fresh.Index, fresh: fresh}, nil
 }
 
 // end is called after a look was taken.
-func (q *request) end(n *newness) {
-	n.Age = sayAge(q.Front, n.fresh)
+func (l *looks) end(q *request, n *newness) {
+	n.Age = l.replica.Age(n.fresh)
 	q.w.Header().Set("Lrcmand-Index", strconv.FormatUint(n.Index, 10))
 	q.w.Header().Set("Lrcmand-Age-Ms", strconv.FormatInt(n.Age, 10))
 }
 
 // look takes a look at the book of the path, and tells how new it is.
-func (q *request) look(look func(*state.View) error) (newness, state.Place, error) {
+func (l *looks) look(q *request, look func(*state.View) error) (newness, state.Place, error) {
 	var place state.Place
-	now, err := q.begin()
+	now, err := l.begin(q)
 	if err != nil {
 		return now, place, err
 	}
-	err = q.State.Look(q.names["book"], func(view *state.View) error {
+	err = l.state.Look(q.names["book"], func(view *state.View) error {
 		place = view.Stand
 		return look(view)
 	})
-	q.end(&now)
+	l.end(q, &now)
 	q.w.Header().Set("Lrcmand-Entries", strconv.FormatUint(place.Made, 10))
 	q.w.Header().Set("Lrcmand-Opens", strconv.FormatUint(place.Opens, 10))
 	return now, place, err
@@ -99,8 +67,8 @@ type stand struct {
 	newness
 }
 
-func (q *request) books() error {
-	now, err := q.begin()
+func (l *looks) books(q *request) error {
+	now, err := l.begin(q)
 	if err != nil {
 		return err
 	}
@@ -110,8 +78,8 @@ func (q *request) books() error {
 		Opens uint64 `json:"opens"`
 	}
 	rows := []row{}
-	for _, name := range q.State.Names() {
-		err := q.State.Look(name, func(view *state.View) error {
+	for _, name := range l.state.Names() {
+		err := l.state.Look(name, func(view *state.View) error {
 			rows = append(rows, row{name, view.Stand.Made, view.Stand.Opens})
 			return nil
 		})
@@ -119,21 +87,20 @@ func (q *request) books() error {
 			return err
 		}
 	}
-	q.end(&now)
+	l.end(q, &now)
 	return q.say(http.StatusOK, struct {
 		newness
 		Books []row `json:"books"`
 	}{now, rows})
 }
 
-func (q *request) bookStatus() error {
-	q.names["view"] = "status"
-	return q.show()
+func (l *looks) bookStatus(q *request) error {
+	return l.table(q, "status")
 }
 
-func (q *request) nodes() error {
+func (l *looks) nodes(q *request) error {
 	var text []byte
-	_, _, err := q.look(func(view *state.View) error {
+	_, _, err := l.look(q, func(view *state.View) error {
 		text = view.Nodes
 		return nil
 	})
@@ -143,9 +110,9 @@ func (q *request) nodes() error {
 	return err
 }
 
-func (q *request) image() error {
+func (l *looks) image(q *request) error {
 	var text []byte
-	_, _, err := q.look(func(view *state.View) (err error) {
+	_, _, err := l.look(q, func(view *state.View) (err error) {
 		text, err = view.Image()
 		return err
 	})
@@ -155,7 +122,7 @@ func (q *request) image() error {
 	return err
 }
 
-func (q *request) peek() error {
+func (l *looks) peek(q *request) error {
 	command, err := book.Parse(q.query.Get("command"))
 	if err != nil {
 		return bad("%v", err)
@@ -167,7 +134,7 @@ func (q *request) peek() error {
 		}
 	}
 	var reply book.Reply
-	now, place, err := q.look(func(view *state.View) (err error) {
+	now, place, err := l.look(q, func(view *state.View) (err error) {
 		reply, err = view.Peek(uint8(session), command)
 		return err
 	})
@@ -193,13 +160,13 @@ func (q *request) sayTable(table *book.Table, place state.Place, now newness, is
 	}{stand{place.Made, place.Opens, now}, isSafe, table})
 }
 
-func (q *request) stripe() error {
+func (l *looks) stripe(q *request) error {
 	stripe, err := book.ParseNumber(q.names["stripe"], book.Stripes-1)
 	if err != nil {
 		return bad("the stripe %v", err)
 	}
 	var draft book.Draft
-	now, place, err := q.look(func(view *state.View) (err error) {
+	now, place, err := l.look(q, func(view *state.View) (err error) {
 		draft, err = view.ShowStripe(uint16(stripe))
 		return err
 	})
@@ -211,13 +178,14 @@ func (q *request) stripe() error {
 	return q.sayTable(draft(), place, now, nil)
 }
 
-func (q *request) show() error {
-	view := q.names["view"]
+func (l *looks) show(q *request) error { return l.table(q, q.names["view"]) }
+
+func (l *looks) table(q *request, view string) error {
 	if !isView[view] {
 		return notFound("there is no such table; it has to be " + strings.Join(book.Views, ", "))
 	}
 	var draft book.Draft
-	now, place, err := q.look(func(it *state.View) (err error) {
+	now, place, err := l.look(q, func(it *state.View) (err error) {
 		draft, err = it.Show(view)
 		return err
 	})
@@ -237,9 +205,9 @@ var isView = func() map[string]bool {
 	return set
 }()
 
-func (q *request) workers() error {
+func (l *looks) workers(q *request) error {
 	var rows []state.Holder
-	now, place, err := q.look(func(view *state.View) (err error) {
+	now, place, err := l.look(q, func(view *state.View) (err error) {
 		rows, err = view.Holders()
 		return err
 	})
@@ -252,10 +220,10 @@ func (q *request) workers() error {
 	}{stand{place.Made, place.Opens, now}, rows})
 }
 
-func (q *request) mayStop() error { return q.forecast(book.Stop) }
-func (q *request) mayLose() error { return q.forecast(book.Lose) }
+func (l *looks) mayStop(q *request) error { return l.forecast(q, book.Stop) }
+func (l *looks) mayLose(q *request) error { return l.forecast(q, book.Lose) }
 
-func (q *request) forecast(outage book.Outage) error {
+func (l *looks) forecast(q *request, outage book.Outage) error {
 	var who book.Who
 	for name, most := range map[string]uint64{"node": math.MaxUint16, "fault": math.MaxUint8, "upgrade": math.MaxUint8} {
 		for _, text := range q.query[name] {
@@ -278,7 +246,7 @@ func (q *request) forecast(outage book.Outage) error {
 	}
 	var draft book.Draft
 	isSafe := false
-	now, place, err := q.look(func(view *state.View) (err error) {
+	now, place, err := l.look(q, func(view *state.View) (err error) {
 		draft, isSafe, err = view.ShowForecast(outage, who)
 		return err
 	})

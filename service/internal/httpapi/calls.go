@@ -1,15 +1,19 @@
-package front
+package httpapi
 
 import (
 	"net/http"
 
 	"lrcman/service/internal/book"
+	"lrcman/service/internal/replica"
 	"lrcman/service/internal/state"
 )
 
+// calls are the requests that change books.
+type calls struct{ replica *replica.Replica }
+
 // answerOf gives a client what an item was answered.
-func (q *request) answerOf(item *state.Item) (state.Answer, error) {
-	answer, err := q.do(q.ctx, item)
+func (c *calls) answerOf(q *request, item *state.Item) (state.Answer, error) {
+	answer, err := c.replica.Do(q.ctx, item)
 	if err != nil || answer.Refusal == 0 {
 		return answer, err
 	}
@@ -36,7 +40,7 @@ type made struct {
 	IsAgain bool   `json:"again,omitempty"`
 }
 
-func (q *request) create() error {
+func (c *calls) create(q *request) error {
 	asJSON, err := isJSON(q.r, true)
 	if err != nil {
 		return err
@@ -53,14 +57,14 @@ func (q *request) create() error {
 	if err != nil {
 		return err
 	}
-	answer, err := q.answerOf(item)
+	answer, err := c.answerOf(q, item)
 	if err != nil {
 		return err
 	}
 	return q.say(http.StatusOK, made{answer.Made, answer.Opens, answer.IsAgain})
 }
 
-func (q *request) reopen() error {
+func (c *calls) reopen(q *request) error {
 	if asJSON, err := isJSON(q.r, true); err != nil {
 		return err
 	} else if asJSON {
@@ -70,7 +74,7 @@ func (q *request) reopen() error {
 	if err != nil {
 		return err
 	}
-	answer, err := q.answerOf(&state.Item{Action: state.Reopen, Book: q.names["book"], Nodes: text})
+	answer, err := c.answerOf(q, &state.Item{Action: state.Reopen, Book: q.names["book"], Nodes: text})
 	if err != nil {
 		return err
 	}
@@ -78,7 +82,7 @@ func (q *request) reopen() error {
 }
 
 // remove ends a book that stands where the caller saw it.
-func (q *request) remove() error {
+func (c *calls) remove(q *request) error {
 	if _, err := isJSON(q.r, false); err != nil {
 		return err
 	}
@@ -90,7 +94,7 @@ func (q *request) remove() error {
 	if err != nil {
 		return err
 	}
-	answer, err := q.answerOf(&state.Item{Action: state.Remove, Book: q.names["book"], At: at})
+	answer, err := c.answerOf(q, &state.Item{Action: state.Remove, Book: q.names["book"], At: at})
 	if err != nil {
 		return err
 	}
@@ -112,7 +116,7 @@ type told struct {
 	IsAgain bool   `json:"again,omitempty"`
 }
 
-func (q *request) call() error {
+func (c *calls) call(q *request) error {
 	if _, err := isJSON(q.r, false); err != nil {
 		return err
 	}
@@ -127,7 +131,7 @@ func (q *request) call() error {
 	if q.role < Operate && !forWorkers[item.Command.Kind] {
 		return forbidden(Operate)
 	}
-	answer, err := q.answerOf(item)
+	answer, err := c.answerOf(q, item)
 	if err != nil {
 		return err
 	}

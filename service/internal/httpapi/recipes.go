@@ -1,4 +1,4 @@
-package front
+package httpapi
 
 import (
 	"net/http"
@@ -8,7 +8,7 @@ import (
 )
 
 // matrix answers with the generator matrix of a code, which no book changes.
-func (q *request) matrix() error {
+func matrix(q *request) error {
 	code, isThere := codes[q.query.Get("code")]
 	if !isThere {
 		return bad("the parameter \"code\" has to be wide or narrow")
@@ -48,7 +48,7 @@ func (q *request) missing() ([]uint8, error) {
 }
 
 // recipe answers with how a fragment is rebuilt: what a worker reads, where, and each coefficient.
-func (q *request) recipe() error {
+func (l *looks) recipe(q *request) error {
 	stripe, err := q.number("stripe", book.Stripes-1)
 	if err != nil {
 		return err
@@ -62,7 +62,7 @@ func (q *request) recipe() error {
 		return err
 	}
 	var found book.Rebuild
-	now, place, err := q.look(func(view *state.View) (err error) {
+	now, place, err := l.look(q, func(view *state.View) (err error) {
 		found, err = view.Rebuild(uint16(stripe), uint8(fragment), further)
 		return err
 	})

@@ -1,4 +1,4 @@
-package front
+package httpapi
 
 import (
 	"net/http"
@@ -42,9 +42,9 @@ func TestAnAddressHasSoManyRequestsASecond(t *testing.T) {
 }
 
 func TestTooManyRequestsAreRefused(t *testing.T) {
-	s := newService(t, func(f *Front) {
-		f.Rates = NewRates(3)
-		f.Rates.now = func() time.Time { return time.Unix(1000, 0) }
+	s := newService(t, func(with *setup) {
+		with.Rates = NewRates(3)
+		with.Rates.now = func() time.Time { return time.Unix(1000, 0) }
 	})
 	for i := 0; i < 2; i++ { // (the service has asked once to make its book)
 		if answer, _ := s.ask("GET", "/books", ""); answer.StatusCode != http.StatusOK {
@@ -56,7 +56,7 @@ func TestTooManyRequestsAreRefused(t *testing.T) {
 	if answer, _ := s.ask("GET", "/health", ""); answer.StatusCode != http.StatusOK {
 		t.Errorf("health: %d", answer.StatusCode)
 	}
-	if counts := s.front.Refused(); counts[429] != 2 {
+	if counts := s.api.refused.counts(); counts[429] != 2 {
 		t.Errorf("counted: %v", counts)
 	}
 }

@@ -1,8 +1,9 @@
-package front
+package httpapi
 
 import (
 	"net/http"
 
+	"lrcman/service/internal/engine"
 	"lrcman/service/internal/state"
 )
 
@@ -11,10 +12,17 @@ type rulesBody struct {
 	Rules *uint32 `json:"rules"`
 }
 
-// rules tells by which rules the group goes on, and whether a program with the next ones may begin in this member's folder.
-func (q *request) rules() error {
-	change := q.State.Change()
-	isSaved := change.Next != 0 && q.Engine.Status().Snapshot >= change.Asked
+// rules are the requests about the rules of the group.
+type rules struct {
+	calls  *calls
+	state  *state.State
+	engine engine.Engine
+}
+
+// show tells by which rules the group goes on, and whether a program with the next ones may begin in this member's folder.
+func (u *rules) show(q *request) error {
+	change := u.state.Change()
+	isSaved := change.Next != 0 && u.engine.Status().Snapshot >= change.Asked
 	return q.say(http.StatusOK, struct {
 		Program uint32 `json:"program"`
 		Group   uint32 `json:"group"`
@@ -23,7 +31,7 @@ func (q *request) rules() error {
 	}{state.LibraryRules(), change.Rules, change.Next, isSaved})
 }
 
-func (q *request) changeRules() error {
+func (u *rules) change(q *request) error {
 	if _, err := isJSON(q.r, false); err != nil {
 		return err
 	}
@@ -38,16 +46,9 @@ func (q *request) changeRules() error {
 	if body.Rules == nil || *body.Rules == 0 {
 		return bad("the field \"rules\" has to be the version of the rules to which the group is to go, 1 or more")
 	}
-	if _, err := q.answerOf(&state.Item{Action: state.ChangeRules, Rules: *body.Rules}); err != nil {
+	if _, err := u.calls.answerOf(q, &state.Item{Action: state.ChangeRules, Rules: *body.Rules}); err != nil {
 		return err
 	}
-	q.saveChange()
-	return q.rules()
-}
-
-// saveChange begins to write a snapshot once the group is to go to other rules: a program with these begins in it.
-func (f *Front) saveChange() {
-	if change := f.State.Change(); change.Asked > f.Engine.Status().Snapshot {
-		f.Engine.Snapshot() // (if one is being written already, the next call makes another)
-	}
+	u.calls.replica.SaveChange()
+	return u.show(q)
 }

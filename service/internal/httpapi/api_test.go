@@ -1,4 +1,4 @@
-package front
+package httpapi
 
 import (
 	"bufio"
@@ -13,82 +13,22 @@ import (
 	"net/http/httptest"
 	"reflect"
 	"strings"
-	"sync"
-	"sync/atomic"
 	"testing"
 	"time"
 
 	"lrcman/service/internal/book"
 	"lrcman/service/internal/engine"
+	"lrcman/service/internal/replica"
 	"lrcman/service/internal/state"
+	"lrcman/service/internal/testengine"
 )
-
-// local is an engine of one member without a disk. Before each proposal it asks what goes wrong.
-type local struct {
-	mu      sync.Mutex
-	machine *state.State
-	index   uint64
-	wrong   func(payload []byte) (isMade bool, err error)
-	members []engine.Member
-	silent  error // what Barrier returns
-	leader  uint64
-	done    chan struct{}
-}
-
-func (l *local) Propose(_ context.Context, payload []byte) (interface{}, error) {
-	l.mu.Lock()
-	defer l.mu.Unlock()
-	isMade, wrong := true, error(nil)
-	if l.wrong != nil {
-		isMade, wrong = l.wrong(payload)
-	}
-	if !isMade {
-		return nil, wrong
-	}
-	l.index++
-	told, err := l.machine.Apply(l.index, payload)
-	if wrong != nil {
-		return nil, wrong
-	}
-	return told, err
-}
-
-func (l *local) Barrier(context.Context) error { return l.silent }
-
-func (l *local) Status() engine.Status {
-	l.mu.Lock()
-	defer l.mu.Unlock()
-	return engine.Status{ID: 1, Leader: l.leader, Applied: l.index, Members: l.members}
-}
-
-func (l *local) Add(_ context.Context, member engine.Member) error {
-	if member.ID == 9 {
-		return engine.Refused("there is a member 9 already")
-	}
-	l.mu.Lock()
-	defer l.mu.Unlock()
-	l.members = append(l.members, member)
-	return nil
-}
-
-func (l *local) Lead(_ context.Context, id uint64) error {
-	if id != 1 {
-		return engine.ErrNotMoved
-	}
-	return nil
-}
-
-func (l *local) Remove(context.Context, uint64) error { return engine.ErrUnknown }
-func (l *local) Snapshot() error                      { return engine.ErrBusy }
-func (l *local) Done() <-chan struct{}                { return l.done }
-func (l *local) Err() error                           { return nil }
-func (l *local) Close()                               {}
 
 // A service under test.
 type service struct {
 	t      *testing.T
-	engine *local
-	front  *Front
+	engine *testengine.Local
+	state  *state.State
+	api    *API
 	url    string
 }
 
@@ -100,20 +40,31 @@ func nodes(slots int) string {
 	return text.String()
 }
 
-func newService(t *testing.T, change func(*Front)) *service {
+// A setup is what a service under test is made of.
+type setup struct {
+	engine  *testengine.Local
+	replica replica.Config
+	Config
+}
+
+func newService(t *testing.T, change func(*setup)) *service {
 	t.Helper()
 	books := state.New()
-	e := &local{machine: books, leader: 1, done: make(chan struct{})}
-	f := &Front{Engine: e, State: books, Timeout: 2 * time.Second, Log: log.New(io.Discard, "", 0)}
+	e := testengine.New(books)
+	with := &setup{e, replica.Config{Engine: e, State: books, Timeout: 2 * time.Second, Log: log.New(io.Discard, "", 0)},
+		Config{Engine: e, State: books, Timeout: 2 * time.Second}}
 	if change != nil {
-		change(f)
+		change(with)
 	}
-	f.Start()
+	with.Replica = replica.New(with.replica)
+	ctx, stop := context.WithCancel(context.Background())
+	go with.Replica.Run(ctx)
+	a := New(with.Config)
 	server := httptest.NewUnstartedServer(nil)
-	server.Config = f.Server()
+	server.Config = a.Server()
 	server.Start()
-	t.Cleanup(func() { f.Stop(); server.CloseClientConnections(); server.Close() })
-	s := &service{t, e, f, server.URL}
+	t.Cleanup(func() { stop(); a.Close(); server.CloseClientConnections(); server.Close() })
+	s := &service{t, e, books, a, server.URL}
 	s.expect("PUT", "/books/p0", nodes(4), 200, `{"n":0,"opens":1}`)
 	return s
 }
@@ -293,7 +244,7 @@ func TestBadRequestsAreRefusedByName(t *testing.T) {
 		s.refused(it.method, it.path, it.body, it.status, it.words)
 	}
 	s.expect("GET", "/books/p0/log", "", 200, "") // none of them was an entry
-	counts := s.front.Refused()
+	counts := s.api.refused.counts()
 	if counts[404] != 11 || counts[413] != 1 || counts[405] != 3 {
 		t.Errorf("counted: %v", counts)
 	}
@@ -390,23 +341,12 @@ func TestALookTellsHowNewItIs(t *testing.T) {
 	}
 }
 
-func TestALookGrowsOldWhereNobodyAnswers(t *testing.T) {
-	s := newService(t, func(f *Front) { f.Engine.(*local).silent = engine.ErrNoLeader })
-	age := func() string {
-		answer, _ := s.ask("GET", "/books/p0", "")
-		return answer.Header.Get("Lrcmand-Age-Ms")
-	}
-	if have := age(); have != "-1" {
-		t.Error(have)
+func TestALookIsOfUnknownAgeWhereNobodyAnswers(t *testing.T) {
+	s := newService(t, func(with *setup) { with.engine.Silent = engine.ErrNoLeader })
+	if answer, _ := s.ask("GET", "/books/p0", ""); answer.Header.Get("Lrcmand-Age-Ms") != "-1" {
+		t.Error(answer.Header)
 	}
 	s.refused("GET", "/books/p0?now=1", "", 503, "there is no leader")
-	s.refused("GET", "/health", "", 503, "there is no leader")
-	s.front.fresh = int64(time.Since(s.front.begun) - 3*time.Second)
-	if have := age(); len(have) != 4 || have < "3000" || have > "4900" {
-		t.Error(have)
-	}
-	s.expect("GET", "/health", "", 200, `{"ok":true}`)
-	s.front.fresh -= int64(3 * time.Second)
 	s.refused("GET", "/health", "", 503, "there is no leader")
 }
 
@@ -537,7 +477,7 @@ func TestRolesAllowWhatThePageSays(t *testing.T) {
 		t.Fatal(err)
 	}
 	s := newService(t, nil)
-	s.front.Rights = rights
+	s.api.cfg.Rights = rights
 	for _, it := range []struct {
 		method, path, body  string
 		look, work, operate int
@@ -586,14 +526,14 @@ func TestRolesAllowWhatThePageSays(t *testing.T) {
 func TestNobodyKnowsIsToldOrTriedAgain(t *testing.T) {
 	s := newService(t, nil)
 	lost := func(times int, isMade bool, err error) {
-		s.engine.mu.Lock()
-		defer s.engine.mu.Unlock()
-		s.engine.wrong = func([]byte) (bool, error) {
-			if times--; times >= 0 {
-				return isMade, err
+		s.engine.Change(func(e *testengine.Local) {
+			e.Wrong = func([]byte) (bool, error) {
+				if times--; times >= 0 {
+					return isMade, err
+				}
+				return true, nil
 			}
-			return true, nil
-		}
+		})
 	}
 	lost(2, true, engine.ErrUnknown) // it was made, and the word of it is lost: with a key it is asked for again
 	s.expect("POST", "/books/p0/call", `{"command":"tick","key":"a"}`, 200, `{"n":1,"opens":1,"reply":"ticked 1 0","kind":"ticked","clock":1,"ended":0,"again":true}`)
@@ -608,103 +548,15 @@ func TestNobodyKnowsIsToldOrTriedAgain(t *testing.T) {
 	s.refused("POST", "/books/p0/call", `{"command":"tick"}`, 503, "there is no leader")
 
 	proposals := 0
-	s.engine.mu.Lock()
-	s.engine.wrong = func([]byte) (bool, error) {
-		if proposals++; proposals == 1 {
-			return true, engine.ErrUnknown
+	s.engine.Change(func(e *testengine.Local) {
+		e.Wrong = func([]byte) (bool, error) {
+			if proposals++; proposals == 1 {
+				return true, engine.ErrUnknown
+			}
+			return false, engine.ErrNoLeader
 		}
-		return false, engine.ErrNoLeader
-	}
-	s.engine.mu.Unlock() // the first proposal was made, so to find no leader later on does not mean that nothing was changed
+	}) // the first proposal was made, so to find no leader later on does not mean that nothing was changed
 	s.refused("POST", "/books/p0/call", `{"command":"tick","key":"c"}`, 504, "nobody knows whether it was made")
-}
-
-// Whatever comes behind a removal stands in the next entry: a snapshot that lacks the book has the index of its entry alone.
-func TestARemovalEndsItsEntry(t *testing.T) {
-	f := &Front{queue: make(chan *pending, 8)}
-	for _, action := range []state.Action{state.Call, state.Remove, state.Create} {
-		f.queue <- &pending{item: &state.Item{Action: action}}
-	}
-	for _, count := range []int{2, 1} {
-		if batch := f.batch(<-f.queue); len(batch) != count {
-			t.Errorf("%d items and not %d", len(batch), count)
-		}
-	}
-}
-
-// stuck is an engine in which the second proposal takes until it is released.
-type stuck struct {
-	*local
-	proposals int32
-	released  chan struct{}
-}
-
-func (s *stuck) Propose(ctx context.Context, payload []byte) (interface{}, error) {
-	if atomic.AddInt32(&s.proposals, 1) == 2 { // (the first one makes the book)
-		<-s.released
-	}
-	return s.local.Propose(ctx, payload)
-}
-
-func TestAnEntryThatIsStuckDoesNotHoldUpOthers(t *testing.T) {
-	var e *stuck
-	s := newService(t, func(f *Front) {
-		e = &stuck{local: f.Engine.(*local), released: make(chan struct{})}
-		f.Engine, f.Timeout = e, time.Minute
-	})
-	told := make(chan error)
-	call := func() {
-		item := &state.Item{Action: state.Call, Book: "p0", Session: 1, Command: book.Command{Kind: book.Tick}}
-		_, err := s.front.do(context.Background(), item)
-		told <- err
-	}
-	go call()
-	eventually(t, func() bool { return atomic.LoadInt32(&e.proposals) == 2 })
-	go call() // this one comes through
-	if err := <-told; err != nil {
-		t.Error(err)
-	}
-	s.expect("GET", "/books/p0/log", "", 200,
-		`{"n":1,"session":1,"command":"tick","reply":"ticked 1 0","kind":"ticked","clock":1,"ended":0}`)
-	close(e.released)
-	if err := <-told; err != nil {
-		t.Error(err)
-	}
-}
-
-func eventually(t *testing.T, is func() bool) {
-	t.Helper()
-	for end := time.Now().Add(20 * time.Second); !is(); time.Sleep(time.Millisecond) {
-		if time.Now().After(end) {
-			t.Fatal("it does not come")
-		}
-	}
-}
-
-func TestTheLeaderTicksBooksWithLeases(t *testing.T) {
-	s := newService(t, func(f *Front) { f.Tick = 160 * time.Millisecond })
-	s.call("place 1")
-	time.Sleep(400 * time.Millisecond)
-	if _, text := s.ask("GET", "/books/p0/log", ""); strings.Count(text, "\n") != 1 {
-		t.Errorf("without a lease: %s", text)
-	}
-	s.call("fail 1")
-	s.call("next")
-	next, end := s.lines("/books/p0/log?follow=1&from=3")
-	defer end()
-	for clock := 1; clock <= 3; clock++ {
-		if entry := next(); entry.Reply != fmt.Sprintf("ticked %d %d", clock, clock/3) {
-			t.Fatalf("%+v", entry)
-		}
-	}
-	s.engine.mu.Lock()
-	s.engine.leader = 2
-	s.engine.mu.Unlock()
-	s.call("next")
-	time.Sleep(400 * time.Millisecond)
-	if _, text := s.ask("GET", "/books/p0/log?from=6", ""); strings.Count(text, "\n") != 1 {
-		t.Errorf("of another leader: %s", text)
-	}
 }
 
 func TestABookIsRemoved(t *testing.T) {
@@ -732,40 +584,24 @@ func TestABookIsRemoved(t *testing.T) {
 func TestNoStreamGoesOnInABookOfTheSameName(t *testing.T) {
 	s := newService(t, nil)
 	s.call("tick")
-	q := &request{Front: s.front, names: map[string]string{"book": "p0"}}
-	before, err := q.entries(0)
+	l := &logs{state: s.state}
+	before, err := l.entries("p0", 0)
 	if err != nil || len(before.rows) != 1 {
 		t.Fatalf("%+v, %v", before, err)
 	}
-	if _, err := q.follow(before, 1); err != nil {
+	if _, err := l.follow("p0", before, 1); err != nil {
 		t.Error(err)
 	}
 	s.expect("DELETE", "/books/p0", `{"at":1,"opens":1}`, 200, `{"n":1,"opens":1}`)
 	s.expect("PUT", "/books/p0", nodes(5), 200, `{"n":0,"opens":1}`)
-	if _, err := q.follow(before, 1); err != state.ErrNoBook {
+	if _, err := l.follow("p0", before, 1); err != state.ErrNoBook {
 		t.Error(err)
 	}
 }
 
-// A removal that perhaps was made is not made again: a book that was made under the name meanwhile would be removed.
-func TestARemovalIsNotTriedAgain(t *testing.T) {
-	s := newService(t, nil)
-	proposals := 0
-	s.engine.mu.Lock()
-	s.engine.wrong = func([]byte) (bool, error) { proposals++; return true, engine.ErrUnknown }
-	s.engine.mu.Unlock()
-	s.refused("DELETE", "/books/p0", `{"at":0,"opens":1}`, 504, "nobody knows whether it was made")
-	if proposals != 1 {
-		t.Errorf("it was proposed %d times", proposals)
-	}
-	s.refused("GET", "/books/p0", "", 404, "there is no such book")
-}
-
 func TestVersionAndMembers(t *testing.T) {
 	s := newService(t, nil)
-	s.engine.mu.Lock()
-	s.engine.members = []engine.Member{{ID: 1, Peer: "h:1", Client: "h:2"}}
-	s.engine.mu.Unlock()
+	s.engine.Change(func(e *testengine.Local) { e.Members = []engine.Member{{ID: 1, Peer: "h:1", Client: "h:2"}} })
 	s.expect("GET", "/members", "", 200, `{"members":[{"id":1,"peer":"h:1","client":"h:2","leader":true}]}`)
 	s.expect("PUT", "/members/2", `{"peer":"i:1","client":"i:2"}`, 200,
 		`{"members":[{"id":1,"peer":"h:1","client":"h:2","leader":true},{"id":2,"peer":"i:1","client":"i:2","leader":false}]}`)
@@ -782,27 +618,9 @@ func TestVersionAndMembers(t *testing.T) {
 	}
 }
 
-func TestManyCallsAtOnceAreAllAnsweredOnce(t *testing.T) {
-	s := newService(t, nil)
-	var wait sync.WaitGroup
-	seen := make([]uint64, 400)
-	for i := range seen {
-		wait.Add(1)
-		go func(i int) {
-			defer wait.Done()
-			answer, err := s.front.do(context.Background(), &state.Item{Action: state.Call, Book: "p0", Session: 1, Command: book.Command{Kind: book.Tick}})
-			if err == nil {
-				seen[i] = answer.Made
-			}
-		}(i)
-	}
-	wait.Wait()
-	numbers := map[uint64]bool{}
-	for _, made := range seen {
-		numbers[made] = true
-	}
-	if len(numbers) != len(seen) || numbers[0] || !numbers[uint64(len(seen))] {
-		t.Errorf("%d of %d", len(numbers), len(seen))
+func TestWhatIsNotTakenIsToldAsTooMany(t *testing.T) {
+	if fail := failureOf(replica.ErrFull); fail.Status != http.StatusTooManyRequests || fail.Words != "too many requests wait" {
+		t.Errorf("%+v", fail)
 	}
 }
 

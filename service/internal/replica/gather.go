@@ -1,11 +1,9 @@
-package front
+package replica
 
 import (
 	"context"
-	"sync/atomic"
 	"time"
 
-	"lrcman/service/internal/book"
 	"lrcman/service/internal/engine"
 	"lrcman/service/internal/state"
 )
@@ -15,89 +13,50 @@ const (
 	holdTime  = 100 * time.Millisecond // in which an entry is told, or the next one is proposed beside it
 	ofEntry   = 512                    // items of an entry, at most
 	bytesOf   = 512 << 10              // texts of an entry beyond which no item is added
-	mayWait   = 4096                   // items
 	retryTime = 10 * time.Millisecond
 )
 
-// A pending is an item that waits for its answer.
-type pending struct {
-	item   *state.Item
-	isLeft int32 // atomic: 0, or 1 once it is taken into an entry or its caller is gone, whichever was first
-	answer state.Answer
-	err    error
-	done   chan struct{}
-}
-
-func (p *pending) take() bool { return atomic.CompareAndSwapInt32(&p.isLeft, 0, 1) }
-
-// tellEarly is nil; a faulty program, which only tests make, answers with it before anything is in the log.
-var tellEarly func(*Front, *state.Item) (state.Answer, bool)
-
-// do brings an item into the log and returns its answer.
-func (f *Front) do(ctx context.Context, item *state.Item) (state.Answer, error) {
-	p := &pending{item: item, done: make(chan struct{})}
-	select {
-	case f.queue <- p:
-	default:
-		return state.Answer{}, errBusy
-	}
-	if tellEarly != nil {
-		if answer, ok := tellEarly(f, item); ok {
-			return answer, nil
-		}
-	}
-	select {
-	case <-p.done:
-		return p.answer, p.err
-	case <-ctx.Done():
-		if p.take() {
-			return state.Answer{}, engine.ErrNoLeader // it was never proposed
-		}
-		return state.Answer{}, engine.ErrUnknown
-	}
-}
-
 // gather makes an entry of all items that came while the one before was under way: one sync serves them all, and a slow disk
 // makes greater entries, not more of them. An entry that is lost on the way to the leader does not hold up the next ones.
-func (f *Front) gather() {
+func (r *Replica) gather(ctx context.Context) {
 	slots, before := make(chan struct{}, underWay), make(chan struct{})
 	close(before)
 	for {
 		select {
-		case first := <-f.queue:
-			f.hold(before)
+		case first := <-r.queue:
+			r.hold(ctx, before)
 			select {
 			case slots <- struct{}{}:
-			case <-f.stop:
+			case <-ctx.Done():
 				return
 			}
 			told := make(chan struct{})
 			before = told
 			go func(batch []*pending) {
-				f.propose(batch)
+				r.propose(batch)
 				close(told)
 				<-slots
-			}(f.batch(first))
-		case <-f.stop:
+			}(r.batch(first))
+		case <-ctx.Done():
 			return
 		}
 	}
 }
 
 // hold returns when an entry is told, or takes too long.
-func (f *Front) hold(before <-chan struct{}) {
+func (r *Replica) hold(ctx context.Context, before <-chan struct{}) {
 	timer := time.NewTimer(holdTime)
 	defer timer.Stop()
 	select {
 	case <-before:
 	case <-timer.C:
-	case <-f.stop:
+	case <-ctx.Done():
 	}
 }
 
 // batch takes what waits into one entry, but for those whose callers are gone. The removal of a book ends its entry: a snapshot
 // has the index of the entry alone, and what comes behind it has to be made.
-func (f *Front) batch(first *pending) []*pending {
+func (r *Replica) batch(first *pending) []*pending {
 	var batch []*pending
 	size := 0
 	for p := first; ; {
@@ -109,7 +68,7 @@ func (f *Front) batch(first *pending) []*pending {
 			return batch
 		}
 		select {
-		case p = <-f.queue:
+		case p = <-r.queue:
 		default:
 			return batch
 		}
@@ -121,7 +80,7 @@ func isRemoval(batch []*pending) bool {
 	return len(batch) > 0 && batch[len(batch)-1].item.Action == state.Remove
 }
 
-func (f *Front) propose(batch []*pending) {
+func (r *Replica) propose(batch []*pending) {
 	if len(batch) == 0 {
 		return // (all callers are gone)
 	}
@@ -129,7 +88,7 @@ func (f *Front) propose(batch []*pending) {
 	for i, p := range batch {
 		items[i] = p.item
 	}
-	answers, err := f.proposeItems(items)
+	answers, err := r.proposeItems(items)
 	for i, p := range batch {
 		if p.err = err; err == nil {
 			p.answer = answers[i]
@@ -140,12 +99,12 @@ func (f *Front) propose(batch []*pending) {
 
 // proposeItems proposes an entry until it is told. Where nothing was proposed it tries again. Where nobody knows, it does so
 // only if no item of the entry would be made twice by that.
-func (f *Front) proposeItems(items []*state.Item) ([]state.Answer, error) {
-	ctx, cancel := context.WithTimeout(context.Background(), f.Timeout*9/10) // so that those who wait hear how it ended
+func (r *Replica) proposeItems(items []*state.Item) ([]state.Answer, error) {
+	ctx, cancel := context.WithTimeout(context.Background(), r.cfg.Timeout*9/10) // so that those who wait hear how it ended
 	defer cancel()
 	payload := state.Encode(items)
 	for isUnknown := false; ; {
-		told, err := f.Engine.Propose(ctx, payload)
+		told, err := r.cfg.Engine.Propose(ctx, payload)
 		if err == nil {
 			return told.([]state.Answer), nil
 		}
@@ -158,7 +117,7 @@ func (f *Front) proposeItems(items []*state.Item) ([]state.Answer, error) {
 		}
 		select {
 		case <-time.After(retryTime):
-		case <-f.Engine.Done():
+		case <-r.cfg.Engine.Done():
 			return nil, err
 		}
 	}
@@ -177,45 +136,4 @@ func areOnce(items []*state.Item) bool {
 		}
 	}
 	return true
-}
-
-// tick makes each book that has a live lease tick, in turn, while this member leads.
-func (f *Front) tick(every time.Duration) {
-	isLeader, since := false, time.Now()
-	check := time.NewTicker(every / 16)
-	defer check.Stop()
-	for {
-		select {
-		case <-check.C:
-		case <-f.stop:
-			return
-		}
-		status := f.Engine.Status()
-		if leads := status.Leader == status.ID; !leads || !isLeader {
-			isLeader, since = leads, time.Now() // a new leader waits for a whole interval: a lease lasts longer, never shorter
-		} else if time.Since(since) >= every {
-			since = since.Add(every)
-			f.tickAll()
-		}
-	}
-}
-
-// tickAll makes each book with a live lease tick.
-func (f *Front) tickAll() {
-	for _, name := range f.State.Names() {
-		hasLease := false
-		err := f.State.Look(name, func(view *state.View) error {
-			hasLease = view.HasLease()
-			return nil
-		})
-		if err != nil || !hasLease {
-			continue
-		}
-		ctx, cancel := context.WithTimeout(context.Background(), f.Timeout)
-		item := &state.Item{Action: state.Call, Book: name, Session: 1, Command: book.Command{Kind: book.Tick}}
-		if _, err := f.do(ctx, item); err != nil {
-			f.Log.Printf("book %s did not tick: %v", name, err)
-		}
-		cancel()
-	}
 }

@@ -1,0 +1,317 @@
+package replica
+
+import (
+	"context"
+	"fmt"
+	"io"
+	"log"
+	"strings"
+	"sync"
+	"sync/atomic"
+	"testing"
+	"time"
+
+	"lrcman/service/internal/book"
+	"lrcman/service/internal/engine"
+	"lrcman/service/internal/state"
+	"lrcman/service/internal/testengine"
+)
+
+func nodes() []byte {
+	var text strings.Builder
+	for i := 0; i < 20; i++ {
+		fmt.Fprintf(&text, "[[node]]\nnumber = %d\nfault = %d\nupgrade = %d\nslots = 4\n", i, i, i%10)
+	}
+	return []byte(text.String())
+}
+
+// A member under test.
+type member struct {
+	*testing.T
+	engine  *testengine.Local
+	state   *state.State
+	replica *Replica
+}
+
+// newMember makes a member with a book p0, which does nothing by itself until it runs.
+func newMember(t *testing.T, change func(*Config)) *member {
+	t.Helper()
+	books := state.New()
+	e := testengine.New(books)
+	cfg := Config{Engine: e, State: books, Timeout: 2 * time.Second, Log: log.New(io.Discard, "", 0)}
+	if change != nil {
+		change(&cfg)
+	}
+	if _, err := e.Propose(context.Background(), state.Encode([]*state.Item{{Action: state.Create, Book: "p0", Nodes: nodes()}})); err != nil {
+		t.Fatal(err)
+	}
+	return &member{t, e, books, New(cfg)}
+}
+
+func (m *member) run() *member {
+	ctx, stop := context.WithCancel(context.Background())
+	m.Cleanup(stop)
+	go m.replica.Run(ctx)
+	return m
+}
+
+func call(line, key string) *state.Item {
+	command, err := book.Parse(line)
+	if err != nil {
+		panic(err)
+	}
+	return &state.Item{Action: state.Call, Book: "p0", Key: key, Session: 1, Command: command}
+}
+
+func (m *member) call(line string) {
+	m.Helper()
+	if answer, err := m.replica.Do(context.Background(), call(line, "")); err != nil || answer.Refusal != 0 {
+		m.Fatal(line, answer, err)
+	}
+}
+
+// replies are the replies of the book, in order.
+func (m *member) replies() (found []string) {
+	m.Helper()
+	err := m.state.Look("p0", func(view *state.View) error {
+		rows, err := view.Entries(0, 1000)
+		for i := range rows {
+			found = append(found, rows[i].Reply.String())
+		}
+		return err
+	})
+	if err != nil {
+		m.Fatal(err)
+	}
+	return found
+}
+
+func (m *member) eventually(is func() bool) {
+	m.Helper()
+	for end := time.Now().Add(20 * time.Second); !is(); time.Sleep(time.Millisecond) {
+		if time.Now().After(end) {
+			m.Fatal("it does not come")
+		}
+	}
+}
+
+// Whatever comes behind a removal stands in the next entry: a snapshot that lacks the book has the index of its entry alone.
+func TestARemovalEndsItsEntry(t *testing.T) {
+	r := New(Config{})
+	for _, action := range []state.Action{state.Call, state.Remove, state.Create} {
+		r.queue <- &pending{item: &state.Item{Action: action}}
+	}
+	for _, count := range []int{2, 1} {
+		if batch := r.batch(<-r.queue); len(batch) != count {
+			t.Errorf("%d items and not %d", len(batch), count)
+		}
+	}
+}
+
+// stuck is an engine in which the first proposal takes until it is released.
+type stuck struct {
+	engine.Engine
+	proposals int32
+	released  chan struct{}
+}
+
+func (s *stuck) Propose(ctx context.Context, payload []byte) (interface{}, error) {
+	if atomic.AddInt32(&s.proposals, 1) == 1 {
+		<-s.released
+	}
+	return s.Engine.Propose(ctx, payload)
+}
+
+func TestAnEntryThatIsStuckDoesNotHoldUpOthers(t *testing.T) {
+	var e *stuck
+	m := newMember(t, func(cfg *Config) {
+		e = &stuck{Engine: cfg.Engine, released: make(chan struct{})}
+		cfg.Engine, cfg.Timeout = e, time.Minute
+	}).run()
+	told := make(chan error)
+	tick := func() {
+		_, err := m.replica.Do(context.Background(), call("tick", ""))
+		told <- err
+	}
+	go tick()
+	m.eventually(func() bool { return atomic.LoadInt32(&e.proposals) == 1 })
+	go tick() // this one comes through
+	if err := <-told; err != nil {
+		t.Error(err)
+	}
+	if replies := m.replies(); len(replies) != 1 || replies[0] != "ticked 1 0" {
+		t.Error(replies)
+	}
+	close(e.released)
+	if err := <-told; err != nil {
+		t.Error(err)
+	}
+}
+
+func TestManyCallsAtOnceAreAllAnsweredOnce(t *testing.T) {
+	m := newMember(t, nil).run()
+	var wait sync.WaitGroup
+	seen := make([]uint64, 400)
+	for i := range seen {
+		wait.Add(1)
+		go func(i int) {
+			defer wait.Done()
+			if answer, err := m.replica.Do(context.Background(), call("tick", "")); err == nil {
+				seen[i] = answer.Made
+			}
+		}(i)
+	}
+	wait.Wait()
+	numbers := map[uint64]bool{}
+	for _, made := range seen {
+		numbers[made] = true
+	}
+	if len(numbers) != len(seen) || numbers[0] || !numbers[uint64(len(seen))] {
+		t.Errorf("%d of %d", len(numbers), len(seen))
+	}
+}
+
+// An item whose caller is gone before it was taken into an entry is never proposed, and an item beyond the room for those that
+// wait is not taken.
+func TestWhatNobodyWaitsForIsNotProposed(t *testing.T) {
+	m := newMember(t, nil)
+	gone, cancel := context.WithCancel(context.Background())
+	cancel()
+	for i := 0; i < mayWait; i++ {
+		if _, err := m.replica.Do(gone, call("tick", "")); err != engine.ErrNoLeader {
+			t.Fatal(err)
+		}
+	}
+	if _, err := m.replica.Do(gone, call("tick", "")); err != ErrFull {
+		t.Error(err)
+	}
+	m.run()
+	m.eventually(func() bool { return len(m.replica.queue) == 0 })
+	m.call("place 1")
+	if replies := m.replies(); len(replies) != 1 || !strings.HasPrefix(replies[0], "placed ") {
+		t.Error(replies)
+	}
+}
+
+// lost makes the next proposals go wrong.
+func (m *member) lost(times int, isMade bool, wrong error) (proposals *int) {
+	proposals = new(int)
+	m.engine.Change(func(e *testengine.Local) {
+		e.Wrong = func([]byte) (bool, error) {
+			if *proposals++; *proposals <= times {
+				return isMade, wrong
+			}
+			return true, nil
+		}
+	})
+	return proposals
+}
+
+func TestAnItemIsProposedAgainWhereItIsMadeOnce(t *testing.T) {
+	m := newMember(t, nil).run()
+	for _, it := range []struct {
+		item   *state.Item
+		times  int
+		isMade bool
+		wrong  error
+		want   error
+		asked  int
+		made   int // the number of entries of the book then
+	}{
+		{call("tick", "a"), 2, true, engine.ErrUnknown, nil, 3, 1},
+		{call("tick", "b"), 2, false, engine.ErrUnknown, nil, 3, 2},
+		{call("tick", ""), 1, true, engine.ErrUnknown, engine.ErrUnknown, 1, 3}, // without a key it is not
+		{call("tick", ""), 2, false, engine.ErrNoLeader, nil, 3, 4},             // nothing was made
+	} {
+		proposals := m.lost(it.times, it.isMade, it.wrong)
+		_, err := m.replica.Do(context.Background(), it.item)
+		if made := len(m.replies()); err != it.want || *proposals != it.asked || made != it.made {
+			t.Errorf("%+v: %v, %d proposals, %d entries", it, err, *proposals, made)
+		}
+	}
+}
+
+// A removal that perhaps was made is not made again: a book that was made under the name meanwhile would be removed.
+func TestARemovalIsNotTriedAgain(t *testing.T) {
+	m := newMember(t, nil).run()
+	proposals := m.lost(1000, true, engine.ErrUnknown)
+	_, err := m.replica.Do(context.Background(), &state.Item{Action: state.Remove, Book: "p0", At: &state.Place{Made: 0, Opens: 1}})
+	if err != engine.ErrUnknown || *proposals != 1 {
+		t.Errorf("%v, and it was proposed %d times", err, *proposals)
+	}
+	if names := m.state.Names(); len(names) != 0 {
+		t.Error(names)
+	}
+}
+
+func TestTheLeaderTicksBooksWithLeases(t *testing.T) {
+	m := newMember(t, func(cfg *Config) { cfg.Tick = 160 * time.Millisecond }).run()
+	m.call("place 1")
+	time.Sleep(400 * time.Millisecond)
+	if replies := m.replies(); len(replies) != 1 {
+		t.Errorf("without a lease: %v", replies)
+	}
+	m.call("fail 1")
+	m.call("next")
+	m.eventually(func() bool { return len(m.replies()) >= 6 })
+	if last := m.replies()[3:6]; strings.Join(last, ", ") != "ticked 1 0, ticked 2 0, ticked 3 1" {
+		t.Error(last)
+	}
+	m.engine.Change(func(e *testengine.Local) { e.Leader = 2 })
+	m.call("next")
+	time.Sleep(400 * time.Millisecond)
+	if replies := m.replies(); len(replies) != 7 {
+		t.Errorf("of another leader: %v", replies)
+	}
+}
+
+func TestBooksGrowOldWhereNobodyAnswers(t *testing.T) {
+	m := newMember(t, func(cfg *Config) { cfg.Engine.(*testengine.Local).Silent = engine.ErrNoLeader })
+	r := m.replica
+	is := func(least, most int64, keepsUp bool) {
+		t.Helper()
+		if age := r.Age(r.Freshness()); age < least || age > most || r.KeepsUp() != keepsUp {
+			t.Errorf("%d ms old, and not %d to %d; it keeps up: %v", age, least, most, r.KeepsUp())
+		}
+	}
+	is(-1, -1, false)
+	if err := r.Barrier(context.Background()); err != engine.ErrNoLeader {
+		t.Error(err)
+	}
+	is(-1, -1, false)
+	r.fresh = int64(time.Since(r.begun) - 3*time.Second)
+	is(3000, 4900, true)
+	before := r.Freshness()
+	m.engine.Change(func(e *testengine.Local) { e.Silent = nil })
+	if err := r.Barrier(context.Background()); err != nil {
+		t.Error(err)
+	}
+	is(0, 2900, true)
+	if age := r.Age(before); age < 3000 || before.Index != 1 {
+		t.Errorf("a look that began before is %d ms old, at %d", age, before.Index)
+	}
+	m.engine.Change(func(e *testengine.Local) { e.Leader = 0 })
+	is(0, 2900, false)
+	r.fresh -= int64(6 * time.Second)
+	m.engine.Change(func(e *testengine.Local) { e.Leader = 1 })
+	is(6000, 8900, false)
+}
+
+// A program with other rules begins in a snapshot of after the request for them.
+func TestASnapshotIsAskedForOnceTheRulesAreToChange(t *testing.T) {
+	m := newMember(t, nil)
+	m.replica.SaveChange()
+	if m.engine.Saved != 0 {
+		t.Error("without a change")
+	}
+	item := &state.Item{Action: state.ChangeRules, Rules: state.LibraryRules() + 1}
+	if _, err := m.engine.Propose(context.Background(), state.Encode([]*state.Item{item})); err != nil {
+		t.Fatal(err)
+	}
+	m.run() // (it asks each second)
+	m.eventually(func() bool {
+		saved := 0
+		m.engine.Change(func(e *testengine.Local) { saved = e.Saved })
+		return saved > 0
+	})
+}

@@ -1,0 +1,50 @@
+package replica
+
+import (
+	"context"
+	"time"
+
+	"lrcman/service/internal/book"
+	"lrcman/service/internal/state"
+)
+
+// tick makes each book that has a live lease tick, in turn, while this member leads.
+func (r *Replica) tick(ctx context.Context, every time.Duration) {
+	isLeader, since := false, time.Now()
+	check := time.NewTicker(every / 16)
+	defer check.Stop()
+	for {
+		select {
+		case <-check.C:
+		case <-ctx.Done():
+			return
+		}
+		status := r.cfg.Engine.Status()
+		if leads := status.Leader == status.ID; !leads || !isLeader {
+			isLeader, since = leads, time.Now() // a new leader waits for a whole interval: a lease lasts longer, never shorter
+		} else if time.Since(since) >= every {
+			since = since.Add(every)
+			r.tickAll()
+		}
+	}
+}
+
+// tickAll makes each book with a live lease tick.
+func (r *Replica) tickAll() {
+	for _, name := range r.cfg.State.Names() {
+		hasLease := false
+		err := r.cfg.State.Look(name, func(view *state.View) error {
+			hasLease = view.HasLease()
+			return nil
+		})
+		if err != nil || !hasLease {
+			continue
+		}
+		ctx, cancel := context.WithTimeout(context.Background(), r.cfg.Timeout)
+		item := &state.Item{Action: state.Call, Book: name, Session: 1, Command: book.Command{Kind: book.Tick}}
+		if _, err := r.Do(ctx, item); err != nil {
+			r.cfg.Log.Printf("book %s did not tick: %v", name, err)
+		}
+		cancel()
+	}
+}

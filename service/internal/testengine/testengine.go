@@ -1,0 +1,107 @@
+// Package testengine has an engine of one member without a disk, for tests of what stands above the log.
+package testengine
+
+import (
+	"context"
+	"sync"
+
+	"lrcman/service/internal/engine"
+)
+
+// A Local is an engine of one member. Before each proposal it asks what goes wrong.
+type Local struct {
+	Wrong   func(payload []byte) (isMade bool, err error) // nil: nothing goes wrong
+	Members []engine.Member
+	Silent  error // what Barrier returns
+	Leader  uint64
+	Saved   int // snapshots that were asked for
+
+	mu      sync.Mutex
+	machine engine.Machine
+	index   uint64
+	done    chan struct{}
+}
+
+// New is an engine that drives a machine, and leads.
+func New(machine engine.Machine) *Local {
+	return &Local{machine: machine, Leader: 1, done: make(chan struct{})}
+}
+
+// Change changes it between two calls of others.
+func (l *Local) Change(change func(*Local)) {
+	l.mu.Lock()
+	defer l.mu.Unlock()
+	change(l)
+}
+
+// Propose applies a payload at once.
+func (l *Local) Propose(_ context.Context, payload []byte) (interface{}, error) {
+	l.mu.Lock()
+	defer l.mu.Unlock()
+	isMade, wrong := true, error(nil)
+	if l.Wrong != nil {
+		isMade, wrong = l.Wrong(payload)
+	}
+	if !isMade {
+		return nil, wrong
+	}
+	l.index++
+	told, err := l.machine.Apply(l.index, payload)
+	if wrong != nil {
+		return nil, wrong
+	}
+	return told, err
+}
+
+// Barrier returns at once.
+func (l *Local) Barrier(context.Context) error {
+	l.mu.Lock()
+	defer l.mu.Unlock()
+	return l.Silent
+}
+
+// Status is that of member 1.
+func (l *Local) Status() engine.Status {
+	l.mu.Lock()
+	defer l.mu.Unlock()
+	return engine.Status{ID: 1, Leader: l.Leader, Applied: l.index, Members: l.Members}
+}
+
+// Add takes any member but 9.
+func (l *Local) Add(_ context.Context, member engine.Member) error {
+	if member.ID == 9 {
+		return engine.Refused("there is a member 9 already")
+	}
+	l.mu.Lock()
+	defer l.mu.Unlock()
+	l.Members = append(l.Members, member)
+	return nil
+}
+
+// Lead moves nothing.
+func (l *Local) Lead(_ context.Context, id uint64) error {
+	if id != 1 {
+		return engine.ErrNotMoved
+	}
+	return nil
+}
+
+// Remove does not tell what became of it.
+func (l *Local) Remove(context.Context, uint64) error { return engine.ErrUnknown }
+
+// Snapshot is busy.
+func (l *Local) Snapshot() error {
+	l.mu.Lock()
+	defer l.mu.Unlock()
+	l.Saved++
+	return engine.ErrBusy
+}
+
+// Done is never closed.
+func (l *Local) Done() <-chan struct{} { return l.done }
+
+// Err is nil.
+func (l *Local) Err() error { return nil }
+
+// Close does nothing.
+func (l *Local) Close() {}
