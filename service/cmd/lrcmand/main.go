@@ -61,11 +61,10 @@ func run(o *options, logger *log.Logger) int {
 	r := replica.New(replica.Config{Engine: node, State: books, Timeout: o.timeout, Tick: o.tickTime(), Log: logger})
 	shown := newShown(node, books, o.data)
 	api := httpapi.New(httpapi.Config{Engine: node, State: books, Replica: r, Rights: o.rights, Rates: o.rates(), Timeout: o.timeout,
-		More: shown.more()})
+		Mounts: shown.mounts(), Observe: shown.metrics.Observe})
 	ctx, stop := context.WithCancel(context.Background())
 	go r.Run(ctx)
 	server := api.Server()
-	server.Handler = shown.metrics.Wrap(api)
 	go serve(server, listener, config, logger)
 	logger.Printf("member %d serves %s, rules %d", o.id, o.listen, state.LibraryRules())
 	status := wait(node, logger)

@@ -33,11 +33,5 @@ func newShown(e engine.Engine, books *state.State, data string) *shown {
 	}
 }
 
-// more are the paths at which it is.
-func (s *shown) more() []httpapi.More {
-	return []httpapi.More{
-		{Path: "", Role: httpapi.Nobody, Query: "book", Answer: s.page.Page},
-		{Path: "events", Role: httpapi.Look, Query: "book", Answer: s.page.Events},
-		{Path: "metrics", Role: httpapi.Look, Answer: s.metrics.Handler().ServeHTTP},
-	}
-}
+// mounts are the paths at which it is.
+func (s *shown) mounts() []httpapi.Mount { return append(s.page.Mounts(), s.metrics.Mount()) }

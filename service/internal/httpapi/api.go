@@ -41,13 +41,14 @@ type Config struct {
 	Rights  *Rights       // nil: all may do all
 	Rates   *Rates        // nil: no address makes too many requests
 	Timeout time.Duration // of one request
-	More    []More        // what other packages answer
+	Mounts  []Mount       // what other packages answer
+	Observe func(Served)  // is told of each request; nil: nobody is
 }
 
 // An API answers clients.
 type API struct {
 	cfg     Config
-	routes  []route
+	routes  []Route
 	refused *tally
 	stop    chan struct{}
 }
@@ -55,7 +56,10 @@ type API struct {
 // New makes an API.
 func New(cfg Config) *API {
 	a := &API{cfg: cfg, refused: &tally{}, stop: make(chan struct{})}
-	a.routes = withMore(a.table(), cfg.More)
+	a.routes = a.table()
+	for _, mount := range cfg.Mounts {
+		a.routes = append(a.routes, mount.route())
+	}
 	return a
 }
 
@@ -77,42 +81,43 @@ func Limit(listener net.Listener) net.Listener {
 	return netutil.LimitListener(listener, mostConnections)
 }
 
-// ServeHTTP answers one request.
-func (a *API) ServeHTTP(w http.ResponseWriter, r *http.Request) {
+// serve answers a request for a target.
+func (a *API) serve(w http.ResponseWriter, r *http.Request, to target) {
 	ctx, cancel := context.WithTimeout(r.Context(), a.cfg.Timeout)
 	defer cancel()
-	q := &request{w: w, r: r, ctx: ctx}
+	q := &request{w: w, r: r, ctx: ctx, names: to.names}
 	q.limitWrite()
-	if err := a.answer(q); err != nil {
+	if err := a.answer(q, to); err != nil {
 		fail := failureOf(err)
 		a.refused.add(fail.Status)
 		q.fail(fail)
 	}
 }
 
-func (a *API) answer(q *request) error {
-	route, names, err := a.find(q.r)
-	if err != nil {
-		return err
+// answer answers a request that may be made.
+func (a *API) answer(q *request, to target) (err error) {
+	if to.err != nil {
+		return to.err
 	}
-	q.names = names
-	if route.role != Nobody { // (whoever watches whether this member is well may always ask)
+	route := to.route
+	if route.Role != Nobody { // (whoever watches whether this member is well may always ask)
 		if err := a.limitRate(q.r); err != nil {
 			return err
 		}
 	}
-	if q.role, err = a.cfg.Rights.roleOf(q.r); err != nil && route.role != Nobody {
+	if q.role, err = a.cfg.Rights.roleOf(q.r); err != nil && route.Role != Nobody {
 		return err
 	}
-	if q.role < route.role {
-		return forbidden(route.role)
+	if q.role < route.Role {
+		return forbidden(route.Role)
 	}
-	if name, isThere := names["book"]; isThere && !isName(name) {
+	if name, isThere := q.names["book"]; isThere && !isName(name) {
 		return bad("the name of a book has 1 to %d letters, digits, '.', '_' and '-', and begins with one of the first two", mostName)
 	}
-	if err := q.readQuery(route.query); err != nil {
+	if q.query, err = readQuery(q.r, route.Query); err != nil {
 		return err
 	}
+	q.most = route.Most
 	return route.serve(q)
 }
 
@@ -140,15 +145,17 @@ type request struct {
 	role  Role
 	names map[string]string // of the path
 	query url.Values
+	most  int64 // bytes of the body
 }
 
 // isSet are the parameters that may come again.
 var isSet = map[string]bool{"node": true, "fault": true, "upgrade": true, "missing": true}
 
-func (q *request) readQuery(taken string) error {
-	query, err := url.ParseQuery(q.r.URL.RawQuery)
+// readQuery reads the parameters of a request, which may be these.
+func readQuery(r *http.Request, taken string) (url.Values, error) {
+	query, err := url.ParseQuery(r.URL.RawQuery)
 	if err != nil {
-		return bad("the parameters can't be read")
+		return nil, bad("the parameters can't be read")
 	}
 	for name, values := range query {
 		isTaken := false
@@ -156,22 +163,21 @@ func (q *request) readQuery(taken string) error {
 			isTaken = isTaken || word == name
 		}
 		if !isTaken {
-			return bad("there is no parameter %q here", name)
+			return nil, bad("there is no parameter %q here", name)
 		}
 		if len(values) > 1 && !isSet[name] {
-			return bad("the parameter %q comes twice", name)
+			return nil, bad("the parameter %q comes twice", name)
 		}
 	}
 	for _, name := range []string{"now", "follow"} {
 		if value := query.Get(name); value != "" && value != "0" && value != "1" {
-			return bad("the parameter %q has to be 0 or 1", name)
+			return nil, bad("the parameter %q has to be 0 or 1", name)
 		}
 	}
 	if format := query.Get("format"); format != "" && format != "csv" && format != "json" {
-		return bad("the parameter \"format\" has to be csv or json")
+		return nil, bad("the parameter \"format\" has to be csv or json")
 	}
-	q.query = query
-	return nil
+	return query, nil
 }
 
 func (q *request) conn() net.Conn {
@@ -187,7 +193,9 @@ func (q *request) limitWrite() {
 }
 
 // body reads the body, which has to come in time.
-func (q *request) body(most int64) ([]byte, error) {
+func (q *request) body() ([]byte, error) { return q.bodyUpTo(q.most) }
+
+func (q *request) bodyUpTo(most int64) ([]byte, error) {
 	if q.r.ContentLength < 0 {
 		return nil, &failure{Status: http.StatusLengthRequired, Words: "the body has no length"}
 	}

@@ -45,11 +45,11 @@ func (c *calls) create(q *request) error {
 	if err != nil {
 		return err
 	}
-	most := int64(mostNodes)
-	if asJSON {
-		most = mostImage
+	most := q.most
+	if !asJSON {
+		most = mostNodes
 	}
-	text, err := q.body(most)
+	text, err := q.bodyUpTo(most)
 	if err != nil {
 		return err
 	}
@@ -70,7 +70,7 @@ func (c *calls) reopen(q *request) error {
 	} else if asJSON {
 		return &failure{Status: http.StatusUnsupportedMediaType, Words: "the body has to be TOML"}
 	}
-	text, err := q.body(mostNodes)
+	text, err := q.body()
 	if err != nil {
 		return err
 	}
@@ -86,7 +86,7 @@ func (c *calls) remove(q *request) error {
 	if _, err := isJSON(q.r, false); err != nil {
 		return err
 	}
-	text, err := q.body(mostCall)
+	text, err := q.body()
 	if err != nil {
 		return err
 	}
@@ -120,7 +120,7 @@ func (c *calls) call(q *request) error {
 	if _, err := isJSON(q.r, false); err != nil {
 		return err
 	}
-	text, err := q.body(mostCall)
+	text, err := q.body()
 	if err != nil {
 		return err
 	}

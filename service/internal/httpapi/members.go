@@ -72,7 +72,7 @@ func (g *group) addMember(q *request) error {
 	if _, err := isJSON(q.r, false); err != nil {
 		return err
 	}
-	text, err := q.body(mostMember)
+	text, err := q.body()
 	if err != nil {
 		return err
 	}

@@ -3,58 +3,99 @@ package httpapi
 import (
 	"net/http"
 	"strings"
+
+	"lrcman/service/internal/book"
 )
 
-// A route is what a path with a method does. A word of its path in braces is a name.
-type route struct {
-	method string
-	path   string
-	role   Role
-	query  string // the parameters that it takes
-	serve  func(*request) error
+// A Route is what a request of a method at a path does. Its pattern is its label in metrics, too.
+type Route struct {
+	Method  string
+	Pattern string // the path; a word of it in braces is a name
+	Role    Role   // the least that may ask
+	Most    int64  // bytes of its body; what a route without one is sent is not read
+	Query   string // the parameters that it takes
+	Timing  Timing
+	serve   func(*request) error
 }
 
-// table is what the service answers.
-func (a *API) table() []route {
+// A Timing tells in which histograms the requests of a route are.
+type Timing int
+
+// The timings.
+const (
+	Timed       Timing = iota // in that of its route
+	TimedByBook               // also in that of the calls of its book, if they are answered with 200
+	NotTimed                  // in none: they last as long as their clients like
+)
+
+// table is what the service answers, but for the mounts of other packages.
+func (a *API) table() []Route {
 	calls := &calls{a.cfg.Replica}
 	looks := &looks{a.cfg.State, a.cfg.Replica}
 	group := &group{a.cfg.Engine, a.cfg.Replica, a.refused}
 	rules := &rules{calls, a.cfg.State, a.cfg.Engine}
 	logs := &logs{a.cfg.State, make(chan struct{}, mostStreams), a.stop}
-	return []route{
-		{"GET", "health", Nobody, "", group.health},
-		{"GET", "version", Look, "", group.version},
-		{"GET", "status", Look, "", group.status},
-		{"GET", "members", Look, "", group.members},
-		{"PUT", "members/{id}", Operate, "", group.addMember},
-		{"DELETE", "members/{id}", Operate, "", group.removeMember},
-		{"POST", "leader/{id}", Operate, "", group.lead},
-		{"POST", "snapshot", Operate, "", group.snapshot},
-		{"GET", "rules", Look, "", rules.show},
-		{"PUT", "rules", Operate, "", rules.change},
-		{"GET", "matrix", Look, "code", matrix},
-		{"GET", "books", Look, "now", looks.books},
-		{"PUT", "books/{book}", Operate, "", calls.create},
-		{"DELETE", "books/{book}", Operate, "", calls.remove},
-		{"GET", "books/{book}", Look, "now", looks.bookStatus},
-		{"GET", "books/{book}/nodes", Look, "now", looks.nodes},
-		{"PUT", "books/{book}/nodes", Operate, "", calls.reopen},
-		{"GET", "books/{book}/image", Look, "now", looks.image},
-		{"POST", "books/{book}/call", Work, "", calls.call},
-		{"GET", "books/{book}/peek", Look, "now command session", looks.peek},
-		{"GET", "books/{book}/stripes/{stripe}", Look, "now format", looks.stripe},
-		{"GET", "books/{book}/show/{view}", Look, "now format", looks.show},
-		{"GET", "books/{book}/workers", Look, "now", looks.workers},
-		{"GET", "books/{book}/recipe", Look, "now format stripe fragment missing", looks.recipe},
-		{"GET", "books/{book}/may-stop", Look, "now format node fault upgrade", looks.mayStop},
-		{"GET", "books/{book}/may-lose", Look, "now format node fault upgrade", looks.mayLose},
-		{"GET", "books/{book}/log", Look, "from follow", logs.answer},
+	return []Route{
+		{"GET", "/health", Nobody, 0, "", Timed, group.health},
+		{"GET", "/version", Look, 0, "", Timed, group.version},
+		{"GET", "/status", Look, 0, "", Timed, group.status},
+		{"GET", "/members", Look, 0, "", Timed, group.members},
+		{"PUT", "/members/{id}", Operate, mostMember, "", Timed, group.addMember},
+		{"DELETE", "/members/{id}", Operate, 0, "", Timed, group.removeMember},
+		{"POST", "/leader/{id}", Operate, 0, "", Timed, group.lead},
+		{"POST", "/snapshot", Operate, 0, "", Timed, group.snapshot},
+		{"GET", "/rules", Look, 0, "", Timed, rules.show},
+		{"PUT", "/rules", Operate, mostMember, "", Timed, rules.change},
+		{"GET", "/matrix", Look, 0, "code", Timed, matrix},
+		{"GET", "/books", Look, 0, "now", Timed, looks.books},
+		{"PUT", "/books/{book}", Operate, mostImage, "", Timed, calls.create},
+		{"DELETE", "/books/{book}", Operate, mostCall, "", Timed, calls.remove},
+		{"GET", "/books/{book}", Look, 0, "now", Timed, looks.bookStatus},
+		{"GET", "/books/{book}/nodes", Look, 0, "now", Timed, looks.nodes},
+		{"PUT", "/books/{book}/nodes", Operate, mostNodes, "", Timed, calls.reopen},
+		{"GET", "/books/{book}/image", Look, 0, "now", Timed, looks.image},
+		{"POST", "/books/{book}/call", Work, mostCall, "", TimedByBook, calls.call},
+		{"GET", "/books/{book}/peek", Look, 0, "now command session", Timed, looks.peek},
+		{"GET", "/books/{book}/stripes/{stripe}", Look, 0, "now format", Timed, looks.stripe},
+		{"GET", "/books/{book}/show/{view}", Look, 0, "now format", Timed, looks.show},
+		{"GET", "/books/{book}/workers", Look, 0, "now", Timed, looks.workers},
+		{"GET", "/books/{book}/recipe", Look, 0, "now format stripe fragment missing", Timed, looks.recipe},
+		{"GET", "/books/{book}/may-stop", Look, 0, "now format node fault upgrade", Timed, looks.mayStop},
+		{"GET", "/books/{book}/may-lose", Look, 0, "now format node fault upgrade", Timed, looks.mayLose},
+		{"GET", "/books/{book}/log", Look, 0, "from follow", Timed, logs.answer}, // (a stream if it is followed)
 	}
 }
 
+// Routes are all that the API answers.
+func (a *API) Routes() []Route { return append([]Route(nil), a.routes...) }
+
+// Other is the label of requests at paths of no route.
+const Other = "other"
+
+// Labels are those that the requests of a route have in metrics.
+func (t *Route) Labels() []string {
+	if !strings.Contains(t.Pattern, "{view}") {
+		return []string{t.Pattern}
+	}
+	labels := []string{Other}
+	for _, view := range book.Views {
+		labels = append(labels, t.label(map[string]string{"view": view}))
+	}
+	return labels
+}
+
+// label is that of a request. Names are not in it, since there may be many, but for that of a table.
+func (t *Route) label(names map[string]string) string {
+	view, hasView := names["view"]
+	if hasView && !isView[view] {
+		return Other
+	}
+	return strings.Replace(t.Pattern, "{view}", view, 1)
+}
+
 // match tells whether a path is that of the route. (It asks for no memory: each request is held against many routes)
-func (t *route) match(path string) bool {
-	wanted := t.path
+func (t *Route) match(path string) bool {
+	wanted := t.Pattern[1:]
 	for {
 		word, rest, isLonger := strings.Cut(path, "/")
 		want, wantRest, wantsLonger := strings.Cut(wanted, "/")
@@ -69,9 +110,9 @@ func (t *route) match(path string) bool {
 }
 
 // names are those of a path that matches.
-func (t *route) names(path string) map[string]string {
+func (t *Route) names(path string) map[string]string {
 	names, words := map[string]string{}, strings.Split(path, "/")
-	for i, word := range strings.Split(t.path, "/") {
+	for i, word := range strings.Split(t.Pattern[1:], "/") {
 		if strings.HasPrefix(word, "{") {
 			names[word[1:len(word)-1]] = words[i]
 		}
@@ -79,21 +120,40 @@ func (t *route) names(path string) map[string]string {
 	return names
 }
 
-// find is the route of a request, with the names of its path.
-func (a *API) find(r *http.Request) (*route, map[string]string, error) {
+// A target is what a request is for: its route, or why there is none.
+type target struct {
+	route  *Route
+	label  string // in metrics
+	timing Timing
+	names  map[string]string // of the path
+	err    error
+}
+
+// find is what a request is for. One of another method than its path takes is counted as one of that path.
+func (a *API) find(r *http.Request) target {
 	path := strings.TrimPrefix(r.URL.Path, "/")
+	found := target{label: Other}
 	var methods []string
 	for i := range a.routes {
 		route := &a.routes[i]
-		if isIt := route.match(path); isIt && route.method == r.Method {
-			return route, route.names(path), nil
-		} else if isIt {
-			methods = append(methods, route.method)
+		if !route.match(path) {
+			continue
 		}
+		if methods == nil {
+			found.names = route.names(path)
+			found.label, found.timing = route.label(found.names), route.Timing
+		}
+		if route.Method == r.Method {
+			found.route = route
+			return found
+		}
+		methods = append(methods, route.Method)
 	}
 	if methods != nil {
 		allow := strings.Join(methods, ", ")
-		return nil, nil, &failure{Status: http.StatusMethodNotAllowed, Words: "this takes " + allow, allow: allow}
+		found.err = &failure{Status: http.StatusMethodNotAllowed, Words: "this takes " + allow, allow: allow}
+	} else {
+		found.err = &failure{Status: http.StatusNotFound, Words: "there is nothing at this path"}
 	}
-	return nil, nil, &failure{Status: http.StatusNotFound, Words: "there is nothing at this path"}
+	return found
 }

@@ -35,7 +35,7 @@ func (u *rules) change(q *request) error {
 	if _, err := isJSON(q.r, false); err != nil {
 		return err
 	}
-	text, err := q.body(mostMember)
+	text, err := q.body()
 	if err != nil {
 		return err
 	}

@@ -2,8 +2,6 @@ package metrics
 
 import (
 	"fmt"
-	"net/http"
-	"net/http/httptest"
 	"os"
 	"path/filepath"
 	"regexp"
@@ -13,6 +11,7 @@ import (
 
 	"gopkg.in/yaml.v2"
 
+	"lrcman/service/internal/httpapi"
 	"lrcman/service/internal/survey/recorded"
 )
 
@@ -66,7 +65,7 @@ func labelsByMetric(t *testing.T) map[string]map[string]bool {
 	if err := os.WriteFile(filepath.Join(folder, "one.snap"), nil, 0o600); err != nil {
 		t.Fatal(err)
 	}
-	m.Wrap(http.HandlerFunc(func(http.ResponseWriter, *http.Request) {})).ServeHTTP(httptest.NewRecorder(), httptest.NewRequest("POST", "/books/rack/call", nil))
+	m.Observe(httpapi.Served{Label: "/books/{book}/call", Book: "rack", Timing: httpapi.TimedByBook, Status: 200})
 	families, err := m.Registry().Gather()
 	if err != nil {
 		t.Fatal(err)

@@ -1,7 +1,7 @@
 // Package metrics tells Prometheus how a member, its group and its books fare.
 //
 // What is told of books comes from a survey.Watcher, and is collected when it is asked for. What is told of requests is counted
-// by Wrap. Labels have few values: a book, a level, a node's mode, a domain, a command, a refusal, a route; never a stripe, a
+// by Observe. Labels have few values: a book, a level, a node's mode, a domain, a command, a refusal, a route; never a stripe, a
 // node or a worker.
 package metrics
 

@@ -2,8 +2,6 @@ package metrics
 
 import (
 	"fmt"
-	"io"
-	"net/http"
 	"net/http/httptest"
 	"os"
 	"path/filepath"
@@ -15,6 +13,7 @@ import (
 	dto "github.com/prometheus/client_model/go"
 
 	"lrcman/service/internal/engine"
+	"lrcman/service/internal/httpapi"
 	"lrcman/service/internal/state"
 	"lrcman/service/internal/survey"
 	"lrcman/service/internal/survey/recorded"
@@ -192,7 +191,7 @@ func TestTheGroupIsTold(t *testing.T) {
 func TestNamesAreThoseOfPrometheus(t *testing.T) {
 	m, watcher := metricsOf(books(t), "")
 	watcher.Step()
-	m.Wrap(http.NotFoundHandler()).ServeHTTP(httptest.NewRecorder(), httptest.NewRequest("GET", "/nowhere", nil))
+	m.Observe(httpapi.Served{Label: httpapi.Other, Status: 404})
 	problems, err := testutil.GatherAndLint(m.Registry())
 	if err != nil {
 		t.Fatal(err)
@@ -230,36 +229,27 @@ func TestLabelsAreFew(t *testing.T) {
 
 func TestRequestsAreCountedByRouteAndStatus(t *testing.T) {
 	m, _ := metricsOf(recorded.Books{}, "")
-	answers := map[string]int{"/books/p0/call": 200, "/books/p1/call": 404, "/books/p0/stripes/17": 200, "/books/p0/stripes/18": 404,
-		"/members/4": 409, "/status": 401, "/../etc": 400, "/books/<script>/log": 403, "/books/p0/log": 200}
-	handler := m.Wrap(http.HandlerFunc(func(w http.ResponseWriter, r *http.Request) {
-		if status := answers[r.URL.Path]; status != 200 {
-			w.WriteHeader(status)
-		}
-		io.WriteString(w, "{}\n")
-	}))
-	for path := range answers {
-		r := httptest.NewRequest("POST", "/", nil)
-		r.URL.Path = path
-		if path == "/books/p0/log" {
-			r.URL.RawQuery = "follow=1"
-		}
-		handler.ServeHTTP(httptest.NewRecorder(), r)
+	call, log := "/books/{book}/call", "/books/{book}/log"
+	for _, it := range []httpapi.Served{
+		{Label: call, Book: "p0", Timing: httpapi.TimedByBook, Status: 200},
+		{Label: call, Book: "p1", Timing: httpapi.TimedByBook, Status: 404},
+		{Label: log, Book: "p2", Status: 200},
+		{Label: log, Book: "p0", Timing: httpapi.NotTimed, Status: 200},
+		{Label: "/status", Status: 401},
+		{Label: httpapi.Other, Status: 400},
+	} {
+		m.Observe(it)
 	}
 	got := values(t, m)
 	want := map[string]float64{
-		`lrcmand_http_requests_total{route="/books/{book}/call",status="200"}`:             1,
-		`lrcmand_http_requests_total{route="/books/{book}/call",status="404"}`:             1,
-		`lrcmand_http_requests_total{route="/books/{book}/stripes/{stripe}",status="200"}`: 1,
-		`lrcmand_http_requests_total{route="/books/{book}/stripes/{stripe}",status="404"}`: 1,
-		`lrcmand_http_requests_total{route="/members/{id}",status="409"}`:                  1,
-		`lrcmand_http_requests_total{route="/status",status="401"}`:                        1,
-		`lrcmand_http_requests_total{route="other",status="400"}`:                          1,
-		`lrcmand_http_requests_total{route="/books/{book}/log",status="403"}`:              1,
-		`lrcmand_http_requests_total{route="/books/{book}/log",status="200"}`:              1,
-		`lrcmand_call_duration_seconds{book="p0"}`:                                         1,
-		`lrcmand_http_request_duration_seconds{route="/books/{book}/call"}`:                2,
-		`lrcmand_http_request_duration_seconds{route="/books/{book}/log"}`:                 1, // (the stream is left out)
+		`lrcmand_http_requests_total{route="/books/{book}/call",status="200"}`: 1,
+		`lrcmand_http_requests_total{route="/books/{book}/call",status="404"}`: 1,
+		`lrcmand_http_requests_total{route="/books/{book}/log",status="200"}`:  2,
+		`lrcmand_http_requests_total{route="/status",status="401"}`:            1,
+		`lrcmand_http_requests_total{route="other",status="400"}`:              1,
+		`lrcmand_call_duration_seconds{book="p0"}`:                             1,
+		`lrcmand_http_request_duration_seconds{route="/books/{book}/call"}`:    2,
+		`lrcmand_http_request_duration_seconds{route="/books/{book}/log"}`:     1, // (the stream is left out)
 	}
 	for sample, value := range want {
 		if got[sample] != value {
@@ -267,26 +257,9 @@ func TestRequestsAreCountedByRouteAndStatus(t *testing.T) {
 		}
 	}
 	for sample := range got {
-		if strings.Contains(sample, "p1") || strings.Contains(sample, "script") {
+		if strings.Contains(sample, "p1") || strings.Contains(sample, "p2") {
 			t.Errorf("a name that is no book's became a label: %s", sample)
 		}
-	}
-}
-
-func TestAHandlerThatPanicsIsCounted(t *testing.T) {
-	m, _ := metricsOf(recorded.Books{}, "")
-	func() {
-		defer func() {
-			if recover() == nil {
-				t.Error("the panic is lost")
-			}
-		}()
-		m.Wrap(http.HandlerFunc(func(http.ResponseWriter, *http.Request) { panic("no") })).ServeHTTP(httptest.NewRecorder(), httptest.NewRequest("GET", "/books", nil))
-	}()
-	m.Wrap(http.HandlerFunc(func(http.ResponseWriter, *http.Request) {})).ServeHTTP(httptest.NewRecorder(), httptest.NewRequest("GET", "/books", nil))
-	got := values(t, m)
-	if got[`lrcmand_http_requests_total{route="/books",status="500"}`] != 1 || got[`lrcmand_http_requests_total{route="/books",status="200"}`] != 1 {
-		t.Errorf("%v", got)
 	}
 }
 
@@ -342,34 +315,21 @@ func same(t *testing.T, what string, told, listed map[string]bool) {
 func TestABookThatIsRemovedIsToldNoMore(t *testing.T) {
 	all := recorded.Books{"rack": books(t)["rack"], "harm": books(t)["harm"]}
 	m, _ := metricsOf(all, "")
-	ask := func(method, path string, next http.Handler) string {
+	scraped := func() string {
 		recorder := httptest.NewRecorder()
-		next.ServeHTTP(recorder, httptest.NewRequest(method, path, nil))
+		m.Handler().ServeHTTP(recorder, httptest.NewRequest("GET", "/metrics", nil))
 		return recorder.Body.String()
 	}
 	for name := range all {
-		ask("POST", "/books/"+name+"/call", m.Wrap(http.HandlerFunc(func(http.ResponseWriter, *http.Request) {})))
+		m.Observe(httpapi.Served{Label: "/books/{book}/call", Book: name, Timing: httpapi.TimedByBook, Status: 200})
 	}
-	count := func() int {
-		return strings.Count(ask("GET", "/metrics", m.Handler()), "lrcmand_call_duration_seconds_count{")
-	}
+	count := func() int { return strings.Count(scraped(), "lrcmand_call_duration_seconds_count{") }
 	if count() != 2 {
 		t.Error("two books that were called")
 	}
 	delete(all, "rack")
-	if text := ask("GET", "/metrics", m.Handler()); strings.Contains(text, `book="rack"`) || count() != 1 {
+	if text := scraped(); strings.Contains(text, `book="rack"`) || count() != 1 {
 		t.Errorf("%.300s", text)
-	}
-}
-
-func TestAnswersAreStillSentBitByBit(t *testing.T) {
-	m, _ := metricsOf(recorded.Books{}, "")
-	recorder := httptest.NewRecorder()
-	m.Wrap(http.HandlerFunc(func(w http.ResponseWriter, r *http.Request) {
-		w.(http.Flusher).Flush()
-	})).ServeHTTP(recorder, httptest.NewRequest("GET", "/events", nil))
-	if !recorder.Flushed {
-		t.Error("nothing was flushed")
 	}
 }
 

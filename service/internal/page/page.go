@@ -19,6 +19,7 @@ import (
 	"time"
 
 	"lrcman/service/internal/engine"
+	"lrcman/service/internal/httpapi"
 	"lrcman/service/internal/state"
 	"lrcman/service/internal/survey"
 )
@@ -63,6 +64,14 @@ type kept struct {
 // New makes a page.
 func New(from Sources) *Page {
 	return &Page{Sources: from, streams: make(chan struct{}, mostStreams), kept: map[string]*kept{}}
+}
+
+// Mounts are where the page and its events are.
+func (p *Page) Mounts() []httpapi.Mount {
+	return []httpapi.Mount{
+		{Route: httpapi.Route{Method: "GET", Pattern: "/", Role: httpapi.Nobody, Query: "book"}, Answer: p.Page},
+		{Route: httpapi.Route{Method: "GET", Pattern: "/events", Role: httpapi.Look, Query: "book", Timing: httpapi.NotTimed}, Answer: p.Events},
+	}
 }
 
 // policy lets the page load nothing but what stands in it, and ask nobody but this server.

@@ -1,0 +1,184 @@
+package main
+
+import (
+	"context"
+	"fmt"
+	"io"
+	"log"
+	"net/http/httptest"
+	"os"
+	"reflect"
+	"regexp"
+	"sort"
+	"strings"
+	"testing"
+	"time"
+
+	"lrcman/service/internal/book"
+	"lrcman/service/internal/httpapi"
+	"lrcman/service/internal/replica"
+	"lrcman/service/internal/state"
+	"lrcman/service/internal/testengine"
+)
+
+var tokens = map[httpapi.Role]string{httpapi.Look: "lookslookslookslooks", httpapi.Work: "worksworksworksworks",
+	httpapi.Operate: "operatesoperatesoperates"}
+
+// newAPI is what a member answers, page and metrics too, over an engine without a disk.
+func newAPI(t *testing.T) (*httpapi.API, *shown) {
+	t.Helper()
+	lines := ""
+	for role, token := range tokens {
+		lines += fmt.Sprintf("%v %s\n", role, token)
+	}
+	rights, err := httpapi.ReadRights(strings.NewReader(lines))
+	if err != nil {
+		t.Fatal(err)
+	}
+	books := state.New()
+	e := testengine.New(books)
+	ctx, stop := context.WithCancel(context.Background())
+	r := replica.New(replica.Config{Engine: e, State: books, Timeout: time.Second, Log: log.New(io.Discard, "", 0)})
+	go r.Run(ctx)
+	shown := newShown(e, books, t.TempDir())
+	t.Cleanup(func() { stop(); shown.stop() })
+	return httpapi.New(httpapi.Config{Engine: e, State: books, Replica: r, Rights: rights, Timeout: time.Second,
+		Mounts: shown.mounts(), Observe: shown.metrics.Observe}), shown
+}
+
+// A row is a request of the page: its path has the names of patterns.
+type row struct {
+	method, path string
+	role         httpapi.Role
+	parameters   string
+}
+
+var names = strings.NewReplacer("NAME", "{book}", "ID", "{id}", "WHAT", "{view}", "/S", "/{stripe}")
+
+// rowsOf are the requests of the table of docs/SERVICE.md.
+func rowsOf(t *testing.T) []row {
+	t.Helper()
+	text, err := os.ReadFile("../../../docs/SERVICE.md")
+	if err != nil {
+		t.Fatal(err)
+	}
+	_, part, _ := strings.Cut(string(text), "\n| Request | Does | Role |\n|---|---|---|\n")
+	part, _, _ = strings.Cut(part, "\n\n")
+	roles := map[string]httpapi.Role{"none": httpapi.Nobody, "look": httpapi.Look, "work": httpapi.Work, "operate": httpapi.Operate}
+	var rows []row
+	for _, line := range strings.Split(part, "\n") {
+		cells := strings.Split(line, " | ")
+		least, _, _ := strings.Cut(strings.TrimSuffix(cells[len(cells)-1], " |"), ",")
+		role, isRole := roles[least]
+		if len(cells) != 3 || !isRole {
+			t.Fatalf("this row is not read: %s", line)
+		}
+		for _, request := range regexp.MustCompile("`([A-Z]+) ([^?`]*)([^`]*)`").FindAllStringSubmatch(cells[0], -1) {
+			var parameters []string
+			for _, it := range regexp.MustCompile(`[?&](\w+)=`).FindAllStringSubmatch(request[3], -1) {
+				parameters = append(parameters, it[1])
+			}
+			rows = append(rows, row{request[1], names.Replace(request[2]), role, strings.Join(parameters, " ")})
+		}
+	}
+	return rows
+}
+
+// Each request of the page is a route with its role and its parameters, and each route is on the page.
+func TestThePageHasEachRoute(t *testing.T) {
+	api, _ := newAPI(t)
+	routes, seen := map[string]httpapi.Route{}, map[string]bool{}
+	for _, route := range api.Routes() {
+		if routes[route.Method+" "+route.Pattern].Pattern != "" {
+			t.Errorf("%s %s is there twice", route.Method, route.Pattern)
+		}
+		routes[route.Method+" "+route.Pattern] = route
+	}
+	for _, row := range rowsOf(t) {
+		name := row.method + " " + row.path
+		route, isThere := routes[name]
+		if !isThere {
+			t.Errorf("the page has %s, and there is no such route", name)
+			continue
+		}
+		seen[name] = true
+		if route.Role != row.role {
+			t.Errorf("%s takes the role %v, and on the page %v", name, route.Role, row.role)
+		}
+		for _, parameter := range strings.Fields(row.parameters) {
+			if !strings.Contains(" "+route.Query+" ", " "+parameter+" ") {
+				t.Errorf("%s does not take the parameter %s of the page", name, parameter)
+			}
+		}
+	}
+	for name := range routes {
+		if !seen[name] {
+			t.Errorf("the page lacks %s", name)
+		}
+	}
+}
+
+// ask asks for a route with the token of a role, and returns the status. Streams end at once.
+func ask(api *httpapi.API, method, path string, role httpapi.Role) int {
+	ctx, cancel := context.WithTimeout(context.Background(), 100*time.Millisecond)
+	defer cancel()
+	r := httptest.NewRequest(method, path, nil).WithContext(ctx)
+	if role != httpapi.Nobody {
+		r.Header.Set("Authorization", "Bearer "+tokens[role])
+	}
+	recorder := httptest.NewRecorder()
+	api.ServeHTTP(recorder, r)
+	return recorder.Code
+}
+
+// Each route has the label of its pattern in the metrics, there is no other, and the roles of the page are those that it takes.
+func TestEachRouteIsALabelOfTheMetrics(t *testing.T) {
+	api, shown := newAPI(t)
+	want := map[string]bool{}
+	for _, route := range api.Routes() {
+		for _, label := range route.Labels() {
+			want[label] = true
+		}
+	}
+	for _, row := range rowsOf(t) {
+		for _, view := range append([]string{"all"}, book.Views...) {
+			path := strings.NewReplacer("{book}", "p0", "{id}", "7", "{stripe}", "1", "{view}", view).Replace(row.path)
+			if row.role > httpapi.Nobody {
+				if status := ask(api, row.method, path, row.role-1); status != 401 && status != 403 {
+					t.Errorf("%s %s as %v: %d", row.method, path, row.role-1, status)
+				}
+			}
+			if status := ask(api, row.method, path, row.role); status == 401 || status == 403 || status == 405 {
+				t.Errorf("%s %s as %v: %d", row.method, path, row.role, status)
+			}
+			if !strings.Contains(row.path, "{view}") {
+				break
+			}
+		}
+	}
+	got := map[string]bool{}
+	families, err := shown.metrics.Registry().Gather()
+	if err != nil {
+		t.Fatal(err)
+	}
+	for _, family := range families {
+		for _, metric := range family.Metric {
+			for _, pair := range metric.Label {
+				if pair.GetName() == "route" {
+					got[pair.GetValue()] = true
+				}
+			}
+		}
+	}
+	if !reflect.DeepEqual(got, want) {
+		t.Errorf("labels %v, and routes %v", sorted(got), sorted(want))
+	}
+}
+
+func sorted(set map[string]bool) (words []string) {
+	for word := range set {
+		words = append(words, word)
+	}
+	sort.Strings(words)
+	return words
+}
