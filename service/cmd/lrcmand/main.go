@@ -59,16 +59,16 @@ func run(o *options, logger *log.Logger) int {
 		return statusFault
 	}
 	r := replica.New(replica.Config{Engine: node, State: books, Timeout: o.timeout, Tick: o.tickTime(), Log: logger})
-	shown := newShown(node, books, o.data)
+	monitoring := newMonitoring(node, books, o.data)
 	api := httpapi.New(httpapi.Config{Engine: node, State: books, Replica: r, Rights: o.rights, Rates: o.rates(), Timeout: o.timeout,
-		Mounts: shown.mounts(), Observe: shown.metrics.Observe})
+		Mounts: monitoring.mounts(), Observe: monitoring.metrics.Observe})
 	ctx, stop := context.WithCancel(context.Background())
 	go r.Run(ctx)
 	server := api.Server()
 	go serve(server, listener, config, logger)
 	logger.Printf("member %d serves %s, rules %d", o.id, o.listen, state.LibraryRules())
 	status := wait(node, logger)
-	shown.stop()
+	monitoring.stop()
 	stop()
 	api.Close()
 	server.Close()

@@ -25,7 +25,7 @@ var tokens = map[httpapi.Role]string{httpapi.Look: "lookslookslookslooks", httpa
 	httpapi.Operate: "operatesoperatesoperates"}
 
 // newAPI is what a member answers, page and metrics too, over an engine without a disk.
-func newAPI(t *testing.T) (*httpapi.API, *shown) {
+func newAPI(t *testing.T) (*httpapi.API, *monitoring) {
 	t.Helper()
 	lines := ""
 	for role, token := range tokens {
@@ -40,10 +40,10 @@ func newAPI(t *testing.T) (*httpapi.API, *shown) {
 	ctx, stop := context.WithCancel(context.Background())
 	r := replica.New(replica.Config{Engine: e, State: books, Timeout: time.Second, Log: log.New(io.Discard, "", 0)})
 	go r.Run(ctx)
-	shown := newShown(e, books, t.TempDir())
-	t.Cleanup(func() { stop(); shown.stop() })
+	monitoring := newMonitoring(e, books, t.TempDir())
+	t.Cleanup(func() { stop(); monitoring.stop() })
 	return httpapi.New(httpapi.Config{Engine: e, State: books, Replica: r, Rights: rights, Timeout: time.Second,
-		Mounts: shown.mounts(), Observe: shown.metrics.Observe}), shown
+		Mounts: monitoring.mounts(), Observe: monitoring.metrics.Observe}), monitoring
 }
 
 // A row is a request of the page: its path has the names of patterns.
@@ -133,7 +133,7 @@ func ask(api *httpapi.API, method, path string, role httpapi.Role) int {
 
 // Each route has the label of its pattern in the metrics, there is no other, and the roles of the page are those that it takes.
 func TestEachRouteIsALabelOfTheMetrics(t *testing.T) {
-	api, shown := newAPI(t)
+	api, monitoring := newAPI(t)
 	want := map[string]bool{}
 	for _, route := range api.Routes() {
 		for _, label := range route.Labels() {
@@ -157,7 +157,7 @@ func TestEachRouteIsALabelOfTheMetrics(t *testing.T) {
 		}
 	}
 	got := map[string]bool{}
-	families, err := shown.metrics.Registry().Gather()
+	families, err := monitoring.metrics.Registry().Gather()
 	if err != nil {
 		t.Fatal(err)
 	}

@@ -2,6 +2,7 @@ package book
 
 import (
 	"encoding/json"
+	"errors"
 	"fmt"
 	"reflect"
 	"strings"
@@ -83,7 +84,7 @@ func TestRepliesAreWrittenAsRunPrintsThem(t *testing.T) {
 		if have := reply.String(); have != want {
 			t.Errorf("%q, and not %q", have, want)
 		}
-		text, err := json.Marshal(reply.Speak())
+		text, err := json.Marshal(reply.JSON())
 		if err != nil || !strings.HasPrefix(string(text), fmt.Sprintf(`{"reply":%q,"kind":%q`, want, strings.Fields(want)[0])) {
 			t.Errorf("%s %v", text, err)
 		}
@@ -145,7 +146,7 @@ func TestAnEntryIsTheCallWithItsReply(t *testing.T) {
 	if err != nil || lease.Holder != 7 || lease.Expiry != 3 {
 		t.Errorf("%+v %v", lease, err)
 	}
-	if _, err := b.Lease(1, 4); !IsUnknown(err) {
+	if _, err := b.Lease(1, 4); !errors.Is(err, ErrNotFound) {
 		t.Error(err)
 	}
 	if _, err := b.Call(9, Command{Kind: Tick}); !IsOutOfRange(err) {
@@ -211,11 +212,11 @@ func TestFaultsAreWordsOfThePages(t *testing.T) {
 func TestTablesAreOfTheWholeBook(t *testing.T) {
 	b := open(t, "place 1", "place6 2", "fail 1", "next", "drain 2", "down 3", "upgrade 4")
 	for _, view := range Views {
-		draft, err := b.Show(view)
+		snapshot, err := b.Show(view)
 		if err != nil {
 			t.Fatal(view, err)
 		}
-		table := draft()
+		table := snapshot()
 		var rows []map[string]interface{}
 		text, err := json.Marshal(table)
 		if err == nil {
@@ -240,7 +241,7 @@ func TestTablesAreOfTheWholeBook(t *testing.T) {
 	if stripe, err := b.ShowStripe(2); err != nil || len(stripe().Rows) != 1 {
 		t.Error(err)
 	}
-	if _, err := b.ShowStripe(3); !IsUnknown(err) {
+	if _, err := b.ShowStripe(3); !errors.Is(err, ErrNotFound) {
 		t.Error(err)
 	}
 }
@@ -248,28 +249,28 @@ func TestTablesAreOfTheWholeBook(t *testing.T) {
 func TestForecastsNameNodesAndDomains(t *testing.T) {
 	b := open(t, "place6 1")
 	for _, it := range []struct {
-		who    Who
+		nodes  Selection
 		rows   int
 		isSafe bool
 		err    string
 	}{
-		{Who{Nodes: []uint16{0, 1}}, 1, true, ""},
-		{Who{Nodes: []uint16{0, 1}, Faults: []uint8{2}, Upgrades: []uint8{6}}, 1, false, ""},
-		{Who{Upgrades: []uint8{0}}, 1, true, ""},
-		{Who{Nodes: []uint16{19}}, 0, true, ""},
-		{Who{Nodes: []uint16{20}}, 0, false, "there is no such node: node 20"},
-		{Who{Faults: []uint8{20}}, 0, false, "no node is in this fault domain: fault 20"},
-		{Who{Upgrades: []uint8{10}}, 0, false, "no node is in this upgrade domain: upgrade 10"},
+		{Selection{Nodes: []uint16{0, 1}}, 1, true, ""},
+		{Selection{Nodes: []uint16{0, 1}, Faults: []uint8{2}, Upgrades: []uint8{6}}, 1, false, ""},
+		{Selection{Upgrades: []uint8{0}}, 1, true, ""},
+		{Selection{Nodes: []uint16{19}}, 0, true, ""},
+		{Selection{Nodes: []uint16{20}}, 0, false, "there is no such node: node 20"},
+		{Selection{Faults: []uint8{20}}, 0, false, "no node is in this fault domain: fault 20"},
+		{Selection{Upgrades: []uint8{10}}, 0, false, "no node is in this upgrade domain: upgrade 10"},
 	} {
-		draft, isSafe, err := b.ShowForecast(Stop, it.who)
+		snapshot, isSafe, err := b.ShowForecast(Stop, it.nodes)
 		if err != nil || it.err != "" {
 			if err == nil || err.Error() != it.err {
-				t.Errorf("%+v: %v", it.who, err)
+				t.Errorf("%+v: %v", it.nodes, err)
 			}
 			continue
 		}
-		if table := draft(); len(table.Rows) != it.rows || isSafe != it.isSafe {
-			t.Errorf("%+v: %s %v", it.who, table.CSV(), isSafe)
+		if table := snapshot(); len(table.Rows) != it.rows || isSafe != it.isSafe {
+			t.Errorf("%+v: %s %v", it.nodes, table.CSV(), isSafe)
 		}
 	}
 }

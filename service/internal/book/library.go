@@ -137,8 +137,11 @@ func is(err error, status uint32) bool {
 	return errors.As(err, &fault) && fault.Status == status
 }
 
-// IsUnknown tells whether an error says that there is no such thing.
-func IsUnknown(err error) bool { return is(err, C.LRC_UNKNOWN) }
+// ErrNotFound says that a look names what there is not.
+var ErrNotFound = errors.New("there is no such thing")
+
+// Is tells whether the status says so.
+func (f *Fault) Is(target error) bool { return target == ErrNotFound && f.Status == C.LRC_UNKNOWN }
 
 // IsForgotten tells whether an error says that entries are forgotten.
 func IsForgotten(err error) bool { return is(err, C.LRC_FORGOTTEN) }

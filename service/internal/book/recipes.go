@@ -67,15 +67,15 @@ type Rebuild struct {
 // Rebuild is the recipe of the fragment of a live lease; or, with further fragments that are missing too, that of any fragment.
 func (b *Book) Rebuild(stripe uint16, fragment uint8, further []uint8) (Rebuild, error) {
 	row, err := b.Stripe(stripe)
-	if IsUnknown(err) {
-		return Rebuild{}, &Unknown{"stripe", uint64(stripe)}
+	if errors.Is(err, ErrNotFound) {
+		return Rebuild{}, &notFound{"stripe", uint64(stripe)}
 	} else if err != nil {
 		return Rebuild{}, err
 	}
 	found := Rebuild{Missing: row.Missing}
 	for _, f := range append([]uint8{fragment}, further...) {
 		if int(f) >= row.Code.Fragments() {
-			return Rebuild{}, &Unknown{"fragment", uint64(f)}
+			return Rebuild{}, &notFound{"fragment", uint64(f)}
 		}
 	}
 	for _, f := range further {
@@ -86,8 +86,8 @@ func (b *Book) Rebuild(stripe uint16, fragment uint8, further []uint8) (Rebuild,
 	}
 	if len(further) > 0 {
 		found.Recipe, err = RecipeOf(row.Code, found.Missing, fragment)
-	} else if found.Recipe, err = b.Recipe(stripe, fragment); IsUnknown(err) {
-		return Rebuild{}, &Unknown{"lease", uint64(fragment)}
+	} else if found.Recipe, err = b.Recipe(stripe, fragment); errors.Is(err, ErrNotFound) {
+		return Rebuild{}, &notFound{"lease", uint64(fragment)}
 	}
 	return found, err
 }
@@ -97,7 +97,7 @@ func (r *Rebuild) Table() *Table {
 	table := &Table{Columns: []string{"fragment", "coefficient", "home"}}
 	for f, coefficient := range r.Recipe.Coefficients {
 		if coefficient != 0 {
-			table.add(number(f), number(coefficient), position(r.homes[f].Seat))
+			table.add(number(f), number(coefficient), seat(r.homes[f].Seat))
 		}
 	}
 	return table

@@ -148,8 +148,8 @@ func appendNumber(text []byte, number uint32) []byte {
 	return strconv.AppendUint(append(text, ' '), uint64(number), 10)
 }
 
-// A Spoken is a reply as JSON has it: its line, and the same in numbers. What the kind lacks is left out.
-type Spoken struct {
+// A ReplyJSON is a reply as JSON has it: its line, and the same in numbers. What the kind lacks is left out.
+type ReplyJSON struct {
 	Reply    string     `json:"reply"`
 	Kind     string     `json:"kind"`
 	Seats    []JSONSeat `json:"seats,omitempty"`
@@ -187,26 +187,26 @@ func (n Numbers) MarshalJSON() ([]byte, error) {
 	return append(text, ']'), nil
 }
 
-// Speak returns the reply in words and numbers.
-func (r *Reply) Speak() Spoken {
-	spoken := Spoken{Reply: r.String(), Kind: r.Word()}
+// JSON is the reply in words and numbers.
+func (r *Reply) JSON() ReplyJSON {
+	said := ReplyJSON{Reply: r.String(), Kind: r.Word()}
 	for _, seat := range r.seats() {
-		spoken.Seats = append(spoken.Seats, JSONSeat(seat))
+		said.Seats = append(said.Seats, JSONSeat(seat))
 	}
 	switch r.Kind {
 	case Granted:
 		lease, target := r.Lease, JSONSeat(r.Lease.Target)
-		spoken.Stripe, spoken.Fragment, spoken.Target, spoken.Epoch = &lease.Stripe, &lease.Fragment, &target, lease.Epoch
-		spoken.Repair, spoken.Sources = r.Repair.String(), r.sources()
+		said.Stripe, said.Fragment, said.Target, said.Epoch = &lease.Stripe, &lease.Fragment, &target, lease.Epoch
+		said.Repair, said.Sources = r.Repair.String(), r.sources()
 	case Ticked:
 		clock, ended := r.Clock, r.Ended
-		spoken.Clock, spoken.Ended = &clock, &ended
+		said.Clock, said.Ended = &clock, &ended
 	case Refused:
-		spoken.Refusal, spoken.Name = r.Refusal, RefusalName(r.Refusal)
+		said.Refusal, said.Name = r.Refusal, RefusalName(r.Refusal)
 		if detailed[r.Refusal] {
 			detail := r.Detail
-			spoken.Detail = &detail
+			said.Detail = &detail
 		}
 	}
-	return spoken
+	return said
 }

@@ -3,6 +3,7 @@ package book
 import (
 	"bytes"
 	"encoding/json"
+	"errors"
 	"fmt"
 	"math/bits"
 	"sort"
@@ -23,13 +24,13 @@ type Cell interface {
 }
 
 type (
-	number   uint64
-	word     string
-	yesNo    bool
-	mask     uint16
-	numbers  []uint8
-	nothing  string // what CSV writes where there is nothing; JSON has null
-	position Seat
+	number  uint64
+	word    string
+	yesNo   bool
+	mask    uint16
+	numbers []uint8
+	nothing string // what CSV writes where there is nothing; JSON has null
+	seat    Seat
 )
 
 func (n number) csv() string       { return strconv.FormatUint(uint64(n), 10) }
@@ -44,9 +45,9 @@ func (n nothing) csv() string      { return string(n) }
 func (n nothing) json() interface{} {
 	return nil
 }
-func (p position) csv() string       { return Seat(p).String() }
-func (p position) json() interface{} { return Seat(p).String() }
-func (l numbers) json() interface{}  { return Numbers(l) }
+func (s seat) csv() string          { return Seat(s).String() }
+func (s seat) json() interface{}    { return Seat(s).String() }
+func (l numbers) json() interface{} { return Numbers(l) }
 func (l numbers) csv() string {
 	words := make([]string, len(l))
 	for i, n := range l {
@@ -100,15 +101,15 @@ func min(a, b int) int {
 	return b
 }
 
-// A Draft is what a table is made of. It is taken while nobody else uses the book, which is short; the table is made of it
-// later, beside other calls.
-type Draft func() *Table
+// A TableSnapshot is what a table is made of. It is taken while nobody else uses the book, which is short; the table is made
+// of it later, beside other calls.
+type TableSnapshot func() *Table
 
 // Views are the tables that Show makes.
 var Views = []string{"status", "stripes", "nodes", "leases", "work"}
 
 // Show takes what one of the tables of docs/FORMATS.md, "Output of show", is made of.
-func (b *Book) Show(view string) (Draft, error) {
+func (b *Book) Show(view string) (TableSnapshot, error) {
 	switch view {
 	case "status":
 		return b.showStatus()
@@ -194,7 +195,7 @@ func (c counts) node(row NodeRow) {
 	c["nodes_online"] += int(row.IsOnline)
 }
 
-func (b *Book) showStatus() (Draft, error) {
+func (b *Book) showStatus() (TableSnapshot, error) {
 	found := counts{}
 	stripes, err := b.StripeRows()
 	if err != nil {
@@ -266,13 +267,13 @@ func (p *placed) cells() []Cell {
 		case home.IsThere == 0:
 			cells = append(cells, nothing("-"))
 		default:
-			cells = append(cells, position(home.Seat))
+			cells = append(cells, seat(home.Seat))
 		}
 	}
 	return cells
 }
 
-func (b *Book) draftOf(rows []StripeRow) (Draft, error) {
+func (b *Book) showRows(rows []StripeRow) (TableSnapshot, error) {
 	stripes := make([]placed, len(rows))
 	for i, row := range rows {
 		homes, err := b.Homes(row.Stripe)
@@ -291,23 +292,23 @@ func (b *Book) draftOf(rows []StripeRow) (Draft, error) {
 }
 
 // ShowStripe takes the row of one stripe in the table of stripes.
-func (b *Book) ShowStripe(stripe uint16) (Draft, error) {
+func (b *Book) ShowStripe(stripe uint16) (TableSnapshot, error) {
 	row, err := b.Stripe(stripe)
 	if err != nil {
 		return nil, err
 	}
-	return b.draftOf([]StripeRow{row})
+	return b.showRows([]StripeRow{row})
 }
 
-func (b *Book) showStripes() (Draft, error) {
+func (b *Book) showStripes() (TableSnapshot, error) {
 	rows, err := b.StripeRows()
 	if err != nil {
 		return nil, err
 	}
-	return b.draftOf(rows)
+	return b.showRows(rows)
 }
 
-func (b *Book) showNodes() (Draft, error) {
+func (b *Book) showNodes() (TableSnapshot, error) {
 	rows, err := b.NodeRows()
 	if err != nil {
 		return nil, err
@@ -334,12 +335,12 @@ func (b *Book) showNodes() (Draft, error) {
 	}, nil
 }
 
-func (b *Book) showLeases() (Draft, error) {
+func (b *Book) showLeases() (TableSnapshot, error) {
 	rows, err := b.LeaseRows()
 	return func() *Table {
 		table := &Table{Columns: []string{"stripe", "fragment", "holder", "target", "epoch", "expiry"}}
 		for _, row := range rows {
-			table.add(number(row.Stripe), number(row.Fragment), number(row.Holder), position(row.Target), number(row.Epoch),
+			table.add(number(row.Stripe), number(row.Fragment), number(row.Holder), seat(row.Target), number(row.Epoch),
 				number(row.Expiry))
 		}
 		return table
@@ -369,7 +370,7 @@ func (j *job) cells() []Cell {
 	return append(cells, number(j.lease.Holder), number(j.lease.Epoch))
 }
 
-func (b *Book) showWork() (Draft, error) {
+func (b *Book) showWork() (TableSnapshot, error) {
 	jobs, err := b.jobs()
 	return func() *Table {
 		table := &Table{Columns: []string{"stripe", "fragment", "kind", "sources", "reads", "standing", "holder", "epoch"}}
@@ -402,7 +403,7 @@ func (b *Book) jobs() ([]job, error) {
 		}
 		for f := uint8(0); int(f) < row.Code.Fragments(); f++ {
 			it, err := b.job(row, f)
-			if err != nil && !IsUnknown(err) {
+			if err != nil && !errors.Is(err, ErrNotFound) {
 				return nil, err
 			} else if err == nil {
 				jobs = append(jobs, it)
@@ -420,7 +421,7 @@ func (b *Book) job(row StripeRow, fragment uint8) (it job, err error) {
 		return it, err
 	}
 	it.reads = readsOf(it.plan.Repair, row)
-	if it.lease, err = b.Lease(stripe, fragment); err == nil || !IsUnknown(err) {
+	if it.lease, err = b.Lease(stripe, fragment); err == nil || !errors.Is(err, ErrNotFound) {
 		return it, err
 	}
 	reply, err := b.Peek(1, Command{Kind: Lease, Stripe: stripe, Fragment: fragment})
@@ -442,35 +443,38 @@ func readsOf(repair Repair, row StripeRow) int {
 	return 0
 }
 
-// An Unknown says that a look names what there is not: a node or a domain of an outage; a stripe, a fragment or its lease.
-type Unknown struct {
-	What   string
-	Number uint64
+// A notFound is an ErrNotFound of a node or a domain of an outage; of a stripe, a fragment or its lease.
+type notFound struct {
+	what   string
+	number uint64
 }
 
 // Error has the words of docs/FORMATS.md, where it has some.
-func (u *Unknown) Error() string {
-	switch u.What {
+func (f *notFound) Error() string {
+	switch f.what {
 	case "node":
-		return fmt.Sprintf("there is no such node: node %d", u.Number)
+		return fmt.Sprintf("there is no such node: node %d", f.number)
 	case "stripe":
-		return fmt.Sprintf("there is no stripe %d", u.Number)
+		return fmt.Sprintf("there is no stripe %d", f.number)
 	case "fragment":
-		return fmt.Sprintf("the stripe has no fragment %d", u.Number)
+		return fmt.Sprintf("the stripe has no fragment %d", f.number)
 	case "lease":
-		return fmt.Sprintf("there is no live lease of fragment %d: name what is missing", u.Number)
+		return fmt.Sprintf("there is no live lease of fragment %d: name what is missing", f.number)
 	}
-	return fmt.Sprintf("no node is in this %s domain: %s %d", u.What, u.What, u.Number)
+	return fmt.Sprintf("no node is in this %s domain: %s %d", f.what, f.what, f.number)
 }
 
-// Who are the nodes that an outage is about: some by number, and all of some domains.
-type Who struct {
+// Is tells that it is one.
+func (f *notFound) Is(target error) bool { return target == ErrNotFound }
+
+// A Selection is the nodes that an outage is about: some by number, and all of some domains.
+type Selection struct {
 	Nodes    []uint16
 	Faults   []uint8
 	Upgrades []uint8
 }
 
-func (b *Book) nodesOf(who Who) ([]uint16, error) {
+func (b *Book) nodesOf(selected Selection) ([]uint16, error) {
 	rows, err := b.NodeRows()
 	if err != nil {
 		return nil, err
@@ -482,21 +486,21 @@ func (b *Book) nodesOf(who Who) ([]uint16, error) {
 		byUpgrade[row.Upgrade] = append(byUpgrade[row.Upgrade], row.Number)
 	}
 	var nodes []uint16
-	for _, node := range who.Nodes {
+	for _, node := range selected.Nodes {
 		if !byNumber[node] {
-			return nil, &Unknown{"node", uint64(node)}
+			return nil, &notFound{"node", uint64(node)}
 		}
 		nodes = append(nodes, node)
 	}
-	for _, domain := range who.Faults {
+	for _, domain := range selected.Faults {
 		if byFault[domain] == nil {
-			return nil, &Unknown{"fault", uint64(domain)}
+			return nil, &notFound{"fault", uint64(domain)}
 		}
 		nodes = append(nodes, byFault[domain]...)
 	}
-	for _, domain := range who.Upgrades {
+	for _, domain := range selected.Upgrades {
 		if byUpgrade[domain] == nil {
-			return nil, &Unknown{"upgrade", uint64(domain)}
+			return nil, &notFound{"upgrade", uint64(domain)}
 		}
 		nodes = append(nodes, byUpgrade[domain]...)
 	}
@@ -505,8 +509,8 @@ func (b *Book) nodesOf(who Who) ([]uint16, error) {
 
 // ShowForecast takes what the table of docs/FORMATS.md, "Output of may-stop and may-lose", is made of, and tells whether no
 // stripe is harmed.
-func (b *Book) ShowForecast(outage Outage, who Who) (Draft, bool, error) {
-	nodes, err := b.nodesOf(who)
+func (b *Book) ShowForecast(outage Outage, selected Selection) (TableSnapshot, bool, error) {
+	nodes, err := b.nodesOf(selected)
 	if err != nil {
 		return nil, false, err
 	}

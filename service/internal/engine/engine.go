@@ -44,8 +44,8 @@ type Status struct {
 }
 
 var (
-	// ErrUnknown says that an entry may or may not come to stand in the log.
-	ErrUnknown = errors.New("nobody knows whether it was made")
+	// ErrOutcomeUnknown says that an entry may or may not come to stand in the log.
+	ErrOutcomeUnknown = errors.New("nobody knows whether it was made")
 	// ErrNoLeader says that nothing was proposed, or asked.
 	ErrNoLeader = errors.New("there is no leader")
 	// ErrNotMoved says that the leadership was not moved in time.

@@ -415,7 +415,7 @@ func TestABookBeginsInAnImage(t *testing.T) {
 }
 
 // lines reads a stream.
-func (s *service) lines(path string) (next func() told, end func()) {
+func (s *service) lines(path string) (next func() callResponse, end func()) {
 	s.t.Helper()
 	ctx, cancel := context.WithTimeout(context.Background(), 20*time.Second)
 	r, err := http.NewRequestWithContext(ctx, "GET", s.url+path, nil)
@@ -427,7 +427,7 @@ func (s *service) lines(path string) (next func() told, end func()) {
 		s.t.Fatal(answer, err)
 	}
 	reader := bufio.NewReader(answer.Body)
-	return func() (entry told) {
+	return func() (entry callResponse) {
 		line, err := reader.ReadBytes('\n')
 		if err == nil {
 			err = json.Unmarshal(line, &entry)
@@ -535,11 +535,11 @@ func TestNobodyKnowsIsToldOrTriedAgain(t *testing.T) {
 			}
 		})
 	}
-	lost(2, true, engine.ErrUnknown) // it was made, and the word of it is lost: with a key it is asked for again
+	lost(2, true, engine.ErrOutcomeUnknown) // it was made, and the word of it is lost: with a key it is asked for again
 	s.expect("POST", "/books/p0/call", `{"command":"tick","key":"a"}`, 200, `{"n":1,"opens":1,"reply":"ticked 1 0","kind":"ticked","clock":1,"ended":0,"again":true}`)
-	lost(2, false, engine.ErrUnknown)
+	lost(2, false, engine.ErrOutcomeUnknown)
 	s.expect("POST", "/books/p0/call", `{"command":"tick","key":"b"}`, 200, `{"n":2,"opens":1,"reply":"ticked 2 0","kind":"ticked","clock":2,"ended":0}`)
-	lost(1, true, engine.ErrUnknown) // without a key its caller is told that nobody knows
+	lost(1, true, engine.ErrOutcomeUnknown) // without a key its caller is told that nobody knows
 	s.expect("POST", "/books/p0/call", `{"command":"tick"}`, 504, `{"status":504,"error":"nobody knows whether it was made","maybe":true}`)
 	s.expect("POST", "/books/p0/call", `{"command":"tick"}`, 200, `{"n":4,"opens":1,"reply":"ticked 4 0","kind":"ticked","clock":4,"ended":0}`)
 	lost(2, false, engine.ErrNoLeader) // nothing was made: it is tried again in any case
@@ -551,7 +551,7 @@ func TestNobodyKnowsIsToldOrTriedAgain(t *testing.T) {
 	s.engine.Change(func(e *testengine.Local) {
 		e.Wrong = func([]byte) (bool, error) {
 			if proposals++; proposals == 1 {
-				return true, engine.ErrUnknown
+				return true, engine.ErrOutcomeUnknown
 			}
 			return false, engine.ErrNoLeader
 		}

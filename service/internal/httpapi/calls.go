@@ -14,14 +14,14 @@ type calls struct{ replica *replica.Replica }
 // answerOf gives a client what an item was answered.
 func (c *calls) answerOf(q *request, item *state.Item) (state.Answer, error) {
 	answer, err := c.replica.Do(q.ctx, item)
-	if err != nil || answer.Refusal == 0 {
+	if err != nil || answer.Rejected == 0 {
 		return answer, err
 	}
-	return answer, &failure{Status: statuses[answer.Refusal], Words: answer.Words}
+	return answer, &failure{Status: statuses[answer.Rejected], Words: answer.Words}
 }
 
-// statuses are those of the service's own refusals.
-var statuses = map[state.Refusal]int{
+// statuses are those of rejections.
+var statuses = map[state.Rejection]int{
 	state.NoBook:       http.StatusNotFound,
 	state.BookExists:   http.StatusConflict,
 	state.TooManyBooks: http.StatusConflict,
@@ -33,8 +33,8 @@ var statuses = map[state.Refusal]int{
 	state.NotChanged:   http.StatusConflict,
 }
 
-// made is the answer to one who made a book, or began it over other nodes.
-type made struct {
+// A bookResponse is the answer to one who made a book, or began it over other nodes.
+type bookResponse struct {
 	Made    uint64 `json:"n"`
 	Opens   uint64 `json:"opens"`
 	IsAgain bool   `json:"again,omitempty"`
@@ -61,7 +61,7 @@ func (c *calls) create(q *request) error {
 	if err != nil {
 		return err
 	}
-	return q.say(http.StatusOK, made{answer.Made, answer.Opens, answer.IsAgain})
+	return q.say(http.StatusOK, bookResponse{answer.Made, answer.Opens, answer.IsAgain})
 }
 
 func (c *calls) reopen(q *request) error {
@@ -78,7 +78,7 @@ func (c *calls) reopen(q *request) error {
 	if err != nil {
 		return err
 	}
-	return q.say(http.StatusOK, made{answer.Made, answer.Opens, answer.IsAgain})
+	return q.say(http.StatusOK, bookResponse{answer.Made, answer.Opens, answer.IsAgain})
 }
 
 // remove ends a book that stands where the caller saw it.
@@ -90,7 +90,7 @@ func (c *calls) remove(q *request) error {
 	if err != nil {
 		return err
 	}
-	at, err := placeOf(text)
+	at, err := positionOf(text)
 	if err != nil {
 		return err
 	}
@@ -98,20 +98,20 @@ func (c *calls) remove(q *request) error {
 	if err != nil {
 		return err
 	}
-	return q.say(http.StatusOK, made{Made: answer.Made, Opens: answer.Opens})
+	return q.say(http.StatusOK, bookResponse{Made: answer.Made, Opens: answer.Opens})
 }
 
 // forWorkers are the commands that the role of workers may call.
 var forWorkers = map[book.Kind]bool{book.Place: true, book.Place6: true, book.Drop: true, book.Lease: true, book.Next: true,
 	book.Done: true, book.Abandon: true}
 
-// told is the answer to a call, and an entry of a log.
-type told struct {
+// A callResponse is the answer to a call, and an entry of a log.
+type callResponse struct {
 	Made    uint64 `json:"n,omitempty"`
 	Opens   uint64 `json:"opens,omitempty"`
 	Session uint8  `json:"session,omitempty"`
 	Command string `json:"command,omitempty"`
-	book.Spoken
+	book.ReplyJSON
 	Holder  string `json:"holder,omitempty"`
 	IsAgain bool   `json:"again,omitempty"`
 }
@@ -135,6 +135,6 @@ func (c *calls) call(q *request) error {
 	if err != nil {
 		return err
 	}
-	return q.say(http.StatusOK, told{Made: answer.Made, Opens: answer.Opens, Spoken: answer.Reply.Speak(), Holder: answer.Holder,
+	return q.say(http.StatusOK, callResponse{Made: answer.Made, Opens: answer.Opens, ReplyJSON: answer.Reply.JSON(), Holder: answer.Holder,
 		IsAgain: answer.IsAgain})
 }

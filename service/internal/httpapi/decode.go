@@ -147,7 +147,7 @@ func callOf(text []byte, name string) (*state.Item, error) {
 		return nil, bad("the fields \"at\" and \"opens\" come together")
 	}
 	if body.At != nil {
-		item.At = &state.Place{Made: *body.At, Opens: *body.Opens}
+		item.At = &state.Position{Made: *body.At, Opens: *body.Opens}
 	}
 	command, err := book.Parse(body.Command)
 	if err != nil {
@@ -204,21 +204,21 @@ func createOf(text []byte, name string, isJSON bool) (*state.Item, error) {
 	return item, nil
 }
 
-// A placeBody is the body that removes a book: where it stood when it was looked at.
-type placeBody struct {
+// A positionBody is the body that removes a book: where it stood when it was looked at.
+type positionBody struct {
 	At    *uint64 `json:"at"`
 	Opens *uint64 `json:"opens"`
 }
 
-func placeOf(text []byte) (*state.Place, error) {
-	var body placeBody
+func positionOf(text []byte) (*state.Position, error) {
+	var body positionBody
 	if err := decode(text, &body); err != nil {
 		return nil, err
 	}
 	if body.At == nil || body.Opens == nil {
 		return nil, bad("the fields \"at\" and \"opens\" are needed: the \"n\" and the \"opens\" of a look at the book")
 	}
-	return &state.Place{Made: *body.At, Opens: *body.Opens}, nil
+	return &state.Position{Made: *body.At, Opens: *body.Opens}, nil
 }
 
 // A memberBody is the body that adds a member.

@@ -31,14 +31,13 @@ func bad(form string, values ...interface{}) error {
 func failureOf(err error) *failure {
 	var fail *failure
 	var forgotten *state.Forgotten
-	var unknown *book.Unknown
 	var refused engine.Refused
 	switch {
 	case errors.As(err, &fail):
 		return fail
 	case errors.As(err, &forgotten):
 		return &failure{Status: http.StatusGone, Words: err.Error(), Before: &forgotten.First}
-	case errors.Is(err, state.ErrNoBook), errors.As(err, &unknown), book.IsUnknown(err):
+	case errors.Is(err, state.ErrNoBook), errors.Is(err, book.ErrNotFound):
 		return &failure{Status: http.StatusNotFound, Words: err.Error()}
 	case errors.Is(err, book.ErrUndetermined):
 		return &failure{Status: http.StatusConflict, Words: err.Error()}
@@ -46,7 +45,7 @@ func failureOf(err error) *failure {
 		return &failure{Status: http.StatusConflict, Words: err.Error()}
 	case errors.Is(err, replica.ErrFull):
 		return &failure{Status: http.StatusTooManyRequests, Words: err.Error()}
-	case errors.Is(err, engine.ErrUnknown):
+	case errors.Is(err, engine.ErrOutcomeUnknown):
 		return &failure{Status: http.StatusGatewayTimeout, Words: err.Error(), Maybe: true}
 	}
 	return &failure{Status: http.StatusServiceUnavailable, Words: err.Error()}

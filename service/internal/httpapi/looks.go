@@ -1,6 +1,7 @@
 package httpapi
 
 import (
+	"errors"
 	"fmt"
 	"math"
 	"net/http"
@@ -18,53 +19,53 @@ type looks struct {
 	replica *replica.Replica
 }
 
-// newness tells how new a look is.
-type newness struct {
+// freshness tells how new a look is.
+type freshness struct {
 	Index uint64 `json:"index"`
 	Age   int64  `json:"age_ms"`
 	fresh replica.Freshness
 }
 
 // begin is called before a look is taken: first of all it waits until this member is up to date, if that is asked for.
-func (l *looks) begin(q *request) (newness, error) {
+func (l *looks) begin(q *request) (freshness, error) {
 	if q.query.Get("now") == "1" {
 		if err := l.replica.Barrier(q.ctx); err != nil {
-			return newness{}, err
+			return freshness{}, err
 		}
 	}
 	fresh := l.replica.Freshness()
-	return newness{Index: fresh.Index, fresh: fresh}, nil
+	return freshness{Index: fresh.Index, fresh: fresh}, nil
 }
 
 // end is called after a look was taken.
-func (l *looks) end(q *request, n *newness) {
+func (l *looks) end(q *request, n *freshness) {
 	n.Age = l.replica.Age(n.fresh)
 	q.w.Header().Set("Lrcmand-Index", strconv.FormatUint(n.Index, 10))
 	q.w.Header().Set("Lrcmand-Age-Ms", strconv.FormatInt(n.Age, 10))
 }
 
 // look takes a look at the book of the path, and tells how new it is.
-func (l *looks) look(q *request, look func(*state.View) error) (newness, state.Place, error) {
-	var place state.Place
+func (l *looks) look(q *request, look func(*state.View) error) (freshness, state.Position, error) {
+	var at state.Position
 	now, err := l.begin(q)
 	if err != nil {
-		return now, place, err
+		return now, at, err
 	}
 	err = l.state.Look(q.names["book"], func(view *state.View) error {
-		place = view.Stand
+		at = view.Position
 		return look(view)
 	})
 	l.end(q, &now)
-	q.w.Header().Set("Lrcmand-Entries", strconv.FormatUint(place.Made, 10))
-	q.w.Header().Set("Lrcmand-Opens", strconv.FormatUint(place.Opens, 10))
-	return now, place, err
+	q.w.Header().Set("Lrcmand-Entries", strconv.FormatUint(at.Made, 10))
+	q.w.Header().Set("Lrcmand-Opens", strconv.FormatUint(at.Opens, 10))
+	return now, at, err
 }
 
-// stand is where a book stands and how new that is, in each look.
-type stand struct {
+// A position is where a book stands and how new that is, in each look.
+type position struct {
 	Made  uint64 `json:"n"`
 	Opens uint64 `json:"opens"`
-	newness
+	freshness
 }
 
 func (l *looks) books(q *request) error {
@@ -80,7 +81,7 @@ func (l *looks) books(q *request) error {
 	rows := []row{}
 	for _, name := range l.state.Names() {
 		err := l.state.Look(name, func(view *state.View) error {
-			rows = append(rows, row{name, view.Stand.Made, view.Stand.Opens})
+			rows = append(rows, row{name, view.Position.Made, view.Position.Opens})
 			return nil
 		})
 		if err != nil && err != state.ErrNoBook { // (a restore may have taken it away)
@@ -89,7 +90,7 @@ func (l *looks) books(q *request) error {
 	}
 	l.end(q, &now)
 	return q.say(http.StatusOK, struct {
-		newness
+		freshness
 		Books []row `json:"books"`
 	}{now, rows})
 }
@@ -134,7 +135,7 @@ func (l *looks) peek(q *request) error {
 		}
 	}
 	var reply book.Reply
-	now, place, err := l.look(q, func(view *state.View) (err error) {
+	now, at, err := l.look(q, func(view *state.View) (err error) {
 		reply, err = view.Peek(uint8(session), command)
 		return err
 	})
@@ -142,22 +143,22 @@ func (l *looks) peek(q *request) error {
 		return err
 	}
 	return q.say(http.StatusOK, struct {
-		stand
-		book.Spoken
-	}{stand{place.Made, place.Opens, now}, reply.Speak()})
+		position
+		book.ReplyJSON
+	}{position{at.Made, at.Opens, now}, reply.JSON()})
 }
 
 // sayTable answers with a table, as CSV or as JSON.
-func (q *request) sayTable(table *book.Table, place state.Place, now newness, isSafe *bool) error {
+func (q *request) sayTable(table *book.Table, at state.Position, now freshness, isSafe *bool) error {
 	if q.query.Get("format") == "csv" {
 		q.write(http.StatusOK, "text/csv; charset=utf-8", table.CSV())
 		return nil
 	}
 	return q.say(http.StatusOK, struct {
-		stand
+		position
 		IsSafe *bool       `json:"safe,omitempty"`
 		Rows   *book.Table `json:"rows"`
-	}{stand{place.Made, place.Opens, now}, isSafe, table})
+	}{position{at.Made, at.Opens, now}, isSafe, table})
 }
 
 func (l *looks) stripe(q *request) error {
@@ -165,17 +166,17 @@ func (l *looks) stripe(q *request) error {
 	if err != nil {
 		return bad("the stripe %v", err)
 	}
-	var draft book.Draft
-	now, place, err := l.look(q, func(view *state.View) (err error) {
-		draft, err = view.ShowStripe(uint16(stripe))
+	var snapshot book.TableSnapshot
+	now, at, err := l.look(q, func(view *state.View) (err error) {
+		snapshot, err = view.ShowStripe(uint16(stripe))
 		return err
 	})
-	if book.IsUnknown(err) {
+	if errors.Is(err, book.ErrNotFound) {
 		return notFound(fmt.Sprintf("there is no stripe %d", stripe))
 	} else if err != nil {
 		return err
 	}
-	return q.sayTable(draft(), place, now, nil)
+	return q.sayTable(snapshot(), at, now, nil)
 }
 
 func (l *looks) show(q *request) error { return l.table(q, q.names["view"]) }
@@ -184,15 +185,15 @@ func (l *looks) table(q *request, view string) error {
 	if !isView[view] {
 		return notFound("there is no such table; it has to be " + strings.Join(book.Views, ", "))
 	}
-	var draft book.Draft
-	now, place, err := l.look(q, func(it *state.View) (err error) {
-		draft, err = it.Show(view)
+	var snapshot book.TableSnapshot
+	now, at, err := l.look(q, func(it *state.View) (err error) {
+		snapshot, err = it.Show(view)
 		return err
 	})
 	if err != nil {
 		return err
 	}
-	return q.sayTable(draft(), place, now, nil)
+	return q.sayTable(snapshot(), at, now, nil)
 }
 
 func notFound(words string) error { return &failure{Status: http.StatusNotFound, Words: words} }
@@ -207,7 +208,7 @@ var isView = func() map[string]bool {
 
 func (l *looks) workers(q *request) error {
 	var rows []state.Holder
-	now, place, err := l.look(q, func(view *state.View) (err error) {
+	now, at, err := l.look(q, func(view *state.View) (err error) {
 		rows, err = view.Holders()
 		return err
 	})
@@ -215,16 +216,16 @@ func (l *looks) workers(q *request) error {
 		return err
 	}
 	return q.say(http.StatusOK, struct {
-		stand
+		position
 		Rows []state.Holder `json:"rows"`
-	}{stand{place.Made, place.Opens, now}, rows})
+	}{position{at.Made, at.Opens, now}, rows})
 }
 
 func (l *looks) mayStop(q *request) error { return l.forecast(q, book.Stop) }
 func (l *looks) mayLose(q *request) error { return l.forecast(q, book.Lose) }
 
 func (l *looks) forecast(q *request, outage book.Outage) error {
-	var who book.Who
+	var selected book.Selection
 	for name, most := range map[string]uint64{"node": math.MaxUint16, "fault": math.MaxUint8, "upgrade": math.MaxUint8} {
 		for _, text := range q.query[name] {
 			number, err := book.ParseNumber(text, most)
@@ -233,25 +234,25 @@ func (l *looks) forecast(q *request, outage book.Outage) error {
 			}
 			switch name {
 			case "node":
-				who.Nodes = append(who.Nodes, uint16(number))
+				selected.Nodes = append(selected.Nodes, uint16(number))
 			case "fault":
-				who.Faults = append(who.Faults, uint8(number))
+				selected.Faults = append(selected.Faults, uint8(number))
 			case "upgrade":
-				who.Upgrades = append(who.Upgrades, uint8(number))
+				selected.Upgrades = append(selected.Upgrades, uint8(number))
 			}
 		}
 	}
-	if len(who.Nodes)+len(who.Faults)+len(who.Upgrades) == 0 {
+	if len(selected.Nodes)+len(selected.Faults)+len(selected.Upgrades) == 0 {
 		return bad("name a node, a fault or an upgrade")
 	}
-	var draft book.Draft
+	var snapshot book.TableSnapshot
 	isSafe := false
-	now, place, err := l.look(q, func(view *state.View) (err error) {
-		draft, isSafe, err = view.ShowForecast(outage, who)
+	now, at, err := l.look(q, func(view *state.View) (err error) {
+		snapshot, isSafe, err = view.ShowForecast(outage, selected)
 		return err
 	})
 	if err != nil {
 		return err
 	}
-	return q.sayTable(draft(), place, now, &isSafe)
+	return q.sayTable(snapshot(), at, now, &isSafe)
 }

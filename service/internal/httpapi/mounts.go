@@ -12,26 +12,26 @@ type Mount struct {
 func (m Mount) route() Route {
 	route := m.Route
 	route.serve = func(q *request) error {
-		m.Answer(patient{q.w, q}, q.r)
+		m.Answer(deadlineWriter{q.w, q}, q.r)
 		return nil
 	}
 	return route
 }
 
-// A patient gives the client time to take each part of an answer.
-type patient struct {
+// A deadlineWriter gives the client time to take each part of an answer.
+type deadlineWriter struct {
 	http.ResponseWriter
 	q *request
 }
 
-func (p patient) Write(text []byte) (int, error) {
-	p.q.limitWrite()
-	return p.ResponseWriter.Write(text)
+func (d deadlineWriter) Write(text []byte) (int, error) {
+	d.q.limitWrite()
+	return d.ResponseWriter.Write(text)
 }
 
 // Flush sends what was written.
-func (p patient) Flush() {
-	if flusher, ok := p.ResponseWriter.(http.Flusher); ok {
+func (d deadlineWriter) Flush() {
+	if flusher, ok := d.ResponseWriter.(http.Flusher); ok {
 		flusher.Flush()
 	}
 }

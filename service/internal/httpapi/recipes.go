@@ -62,23 +62,23 @@ func (l *looks) recipe(q *request) error {
 		return err
 	}
 	var found book.Rebuild
-	now, place, err := l.look(q, func(view *state.View) (err error) {
+	now, at, err := l.look(q, func(view *state.View) (err error) {
 		found, err = view.Rebuild(uint16(stripe), uint8(fragment), further)
 		return err
 	})
 	if err != nil {
 		return err
 	}
-	return q.sayRecipe(&found, stand{place.Made, place.Opens, now})
+	return q.sayRecipe(&found, position{at.Made, at.Opens, now})
 }
 
-func (q *request) sayRecipe(found *book.Rebuild, at stand) error {
+func (q *request) sayRecipe(found *book.Rebuild, at position) error {
 	if q.query.Get("format") == "csv" {
 		q.write(http.StatusOK, "text/csv; charset=utf-8", found.Table().CSV())
 		return nil
 	}
 	return q.say(http.StatusOK, struct {
-		stand
+		position
 		Code    string       `json:"code"`
 		Missing book.Numbers `json:"missing_fragments"`
 		Rows    *book.Table  `json:"rows"`

@@ -97,8 +97,8 @@ func (l *logs) stream(q *request, from uint64, now part) {
 func (q *request) writeEntries(from uint64, rows []book.Entry) bool {
 	var text []byte
 	for i := range rows {
-		line, err := json.Marshal(told{Made: from + uint64(i) + 1, Session: rows[i].Session, Command: rows[i].Command.String(),
-			Spoken: rows[i].Reply.Speak()})
+		line, err := json.Marshal(callResponse{Made: from + uint64(i) + 1, Session: rows[i].Session, Command: rows[i].Command.String(),
+			ReplyJSON: rows[i].Reply.JSON()})
 		if err != nil {
 			return false
 		}

@@ -51,11 +51,11 @@ type Page struct {
 	Sources
 	streams chan struct{}
 	mu      sync.Mutex
-	kept    map[string]*kept
+	cached  map[string]*cachedEvent
 }
 
-// kept is the last event of a book, which all its streams share.
-type kept struct {
+// A cachedEvent is the last event of a book, which all its streams share.
+type cachedEvent struct {
 	mu   sync.Mutex
 	made time.Time
 	text []byte
@@ -63,7 +63,7 @@ type kept struct {
 
 // New makes a page.
 func New(from Sources) *Page {
-	return &Page{Sources: from, streams: make(chan struct{}, mostStreams), kept: map[string]*kept{}}
+	return &Page{Sources: from, streams: make(chan struct{}, mostStreams), cached: map[string]*cachedEvent{}}
 }
 
 // Mounts are where the page and its events are.
@@ -129,11 +129,11 @@ type Member struct {
 type Event struct {
 	Member Member   `json:"member"`
 	Books  []string `json:"books"`
-	*Shown
+	*BookEvent
 }
 
-// Shown is what an event tells of a book.
-type Shown struct {
+// A BookEvent is what an event tells of a book.
+type BookEvent struct {
 	*survey.Report
 	Risks      []survey.Risk  `json:"risks"`
 	RisksMore  int            `json:"risks_more"`
@@ -152,28 +152,28 @@ func (p *Page) event(name string) ([]byte, error) {
 		if err != nil {
 			return nil, err
 		}
-		event.Shown = p.shown(report)
+		event.BookEvent = p.bookEvent(report)
 	}
 	return json.Marshal(event)
 }
 
-func (p *Page) shown(r *survey.Report) *Shown {
-	shown := &Shown{Report: r, Risks: r.Risks, Leases: oldest(r.Leases), Rates: p.Watcher.Rates(r.Book, r.Work), Last: p.Watcher.Last(r.Book)}
+func (p *Page) bookEvent(r *survey.Report) *BookEvent {
+	event := &BookEvent{Report: r, Risks: r.Risks, Leases: oldest(r.Leases), Rates: p.Watcher.Rates(r.Book, r.Work), Last: p.Watcher.Last(r.Book)}
 	if more := len(r.Risks) - mostRows; more > 0 {
-		shown.Risks, shown.RisksMore = r.Risks[:mostRows], more
+		event.Risks, event.RisksMore = r.Risks[:mostRows], more
 	}
 	if more := len(r.Leases) - mostRows; more > 0 {
-		shown.Leases, shown.LeasesMore = shown.Leases[:mostRows], more
+		event.Leases, event.LeasesMore = event.Leases[:mostRows], more
 	}
-	return shown
+	return event
 }
 
 // text is the event of a book, made at most once in a while for all streams.
 func (p *Page) text(name string) ([]byte, error) {
 	p.mu.Lock()
-	k := p.kept[name]
+	k := p.cached[name]
 	if k == nil {
-		k = &kept{}
+		k = &cachedEvent{}
 	}
 	p.mu.Unlock()
 	k.mu.Lock()
@@ -187,7 +187,7 @@ func (p *Page) text(name string) ([]byte, error) {
 	}
 	k.text, k.made = text, time.Now()
 	p.mu.Lock()
-	p.kept[name] = k // (only of a book that there is)
+	p.cached[name] = k // (only of a book that there is)
 	p.mu.Unlock()
 	return text, nil
 }

@@ -26,7 +26,7 @@ func peekAnswer(r *Replica, item *state.Item) (answer state.Answer, ok bool) {
 		return answer, false
 	}
 	err := r.cfg.State.Look(item.Book, func(view *state.View) (err error) {
-		answer.Made, answer.Opens = view.Stand.Made+1, view.Stand.Opens
+		answer.Made, answer.Opens = view.Position.Made+1, view.Position.Opens
 		answer.Reply, err = view.Peek(item.Session, item.Command)
 		return err
 	})

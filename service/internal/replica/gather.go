@@ -108,9 +108,9 @@ func (r *Replica) proposeItems(items []*state.Item) ([]state.Answer, error) {
 		if err == nil {
 			return told.([]state.Answer), nil
 		}
-		mayRepeat := err == engine.ErrNoLeader || err == engine.ErrUnknown && areOnce(items)
-		if isUnknown = isUnknown || err == engine.ErrUnknown; isUnknown {
-			err = engine.ErrUnknown // (an earlier one may still be made)
+		mayRepeat := err == engine.ErrNoLeader || err == engine.ErrOutcomeUnknown && areOnce(items)
+		if isUnknown = isUnknown || err == engine.ErrOutcomeUnknown; isUnknown {
+			err = engine.ErrOutcomeUnknown // (an earlier one may still be made)
 		}
 		if !mayRepeat || ctx.Err() != nil {
 			return nil, err

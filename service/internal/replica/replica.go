@@ -86,6 +86,6 @@ func (r *Replica) Do(ctx context.Context, item *state.Item) (state.Answer, error
 		if p.take() {
 			return state.Answer{}, engine.ErrNoLeader // it was never proposed
 		}
-		return state.Answer{}, engine.ErrUnknown
+		return state.Answer{}, engine.ErrOutcomeUnknown
 	}
 }

@@ -65,7 +65,7 @@ func call(line, key string) *state.Item {
 
 func (m *member) call(line string) {
 	m.Helper()
-	if answer, err := m.replica.Do(context.Background(), call(line, "")); err != nil || answer.Refusal != 0 {
+	if answer, err := m.replica.Do(context.Background(), call(line, "")); err != nil || answer.Rejected != 0 {
 		m.Fatal(line, answer, err)
 	}
 }
@@ -218,10 +218,10 @@ func TestAnItemIsProposedAgainWhereItIsMadeOnce(t *testing.T) {
 		asked  int
 		made   int // the number of entries of the book then
 	}{
-		{call("tick", "a"), 2, true, engine.ErrUnknown, nil, 3, 1},
-		{call("tick", "b"), 2, false, engine.ErrUnknown, nil, 3, 2},
-		{call("tick", ""), 1, true, engine.ErrUnknown, engine.ErrUnknown, 1, 3}, // without a key it is not
-		{call("tick", ""), 2, false, engine.ErrNoLeader, nil, 3, 4},             // nothing was made
+		{call("tick", "a"), 2, true, engine.ErrOutcomeUnknown, nil, 3, 1},
+		{call("tick", "b"), 2, false, engine.ErrOutcomeUnknown, nil, 3, 2},
+		{call("tick", ""), 1, true, engine.ErrOutcomeUnknown, engine.ErrOutcomeUnknown, 1, 3}, // without a key it is not
+		{call("tick", ""), 2, false, engine.ErrNoLeader, nil, 3, 4},                           // nothing was made
 	} {
 		proposals := m.lost(it.times, it.isMade, it.wrong)
 		_, err := m.replica.Do(context.Background(), it.item)
@@ -234,9 +234,9 @@ func TestAnItemIsProposedAgainWhereItIsMadeOnce(t *testing.T) {
 // A removal that perhaps was made is not made again: a book that was made under the name meanwhile would be removed.
 func TestARemovalIsNotTriedAgain(t *testing.T) {
 	m := newMember(t, nil).run()
-	proposals := m.lost(1000, true, engine.ErrUnknown)
-	_, err := m.replica.Do(context.Background(), &state.Item{Action: state.Remove, Book: "p0", At: &state.Place{Made: 0, Opens: 1}})
-	if err != engine.ErrUnknown || *proposals != 1 {
+	proposals := m.lost(1000, true, engine.ErrOutcomeUnknown)
+	_, err := m.replica.Do(context.Background(), &state.Item{Action: state.Remove, Book: "p0", At: &state.Position{Made: 0, Opens: 1}})
+	if err != engine.ErrOutcomeUnknown || *proposals != 1 {
 		t.Errorf("%v, and it was proposed %d times", err, *proposals)
 	}
 	if names := m.state.Names(); len(names) != 0 {

@@ -30,14 +30,14 @@ type Item struct {
 	Worker  string // of a call: "" or the name of the worker who asks
 	Session uint8
 	Command book.Command
-	At      *Place // where the book has to stand; of a call it may be nil
-	Nodes   []byte // of Create and Reopen
-	Image   []byte // of Create: nil, or the image to begin in
-	Rules   uint32 // of ChangeRules
+	At      *Position // where the book has to stand; of a call it may be nil
+	Nodes   []byte    // of Create and Reopen
+	Image   []byte    // of Create: nil, or the image to begin in
+	Rules   uint32    // of ChangeRules
 }
 
-// A Place is where a book stands: the number of its entries, and how often it was begun over nodes or an image.
-type Place struct{ Made, Opens uint64 }
+// A Position is where a book stands: the number of its entries, and how often it was begun over nodes or an image.
+type Position struct{ Made, Opens uint64 }
 
 // Form is the version of the form of entries. A program refuses another one.
 const Form = 1
@@ -58,7 +58,7 @@ func Encode(items []*Item) []byte {
 		case Reopen:
 			b = appendBytes(b, item.Nodes)
 		case Remove:
-			b = appendPlace(b, *item.At)
+			b = appendPosition(b, *item.At)
 		case ChangeRules:
 			b = binary.AppendUvarint(b, uint64(item.Rules))
 		}
@@ -66,7 +66,7 @@ func Encode(items []*Item) []byte {
 	return b
 }
 
-func appendPlace(b []byte, at Place) []byte {
+func appendPosition(b []byte, at Position) []byte {
 	return binary.AppendUvarint(binary.AppendUvarint(b, at.Made), at.Opens)
 }
 
@@ -89,7 +89,7 @@ func appendAsked(b []byte, item *Item) []byte {
 	if item.At == nil {
 		return append(b, 0)
 	}
-	return appendPlace(append(b, 1), *item.At)
+	return appendPosition(append(b, 1), *item.At)
 }
 
 // fingerprint tells calls apart that come with one key.
@@ -146,7 +146,7 @@ func (r *reader) call(item *Item) {
 	item.Command.Stripe = uint16(r.number())
 	item.Command.Node = uint16(r.number())
 	if r.byte() == 1 {
-		item.At = &Place{r.number(), r.number()}
+		item.At = &Position{r.number(), r.number()}
 	}
 }
 
@@ -161,7 +161,7 @@ func (r *reader) item() *Item {
 	case Reopen:
 		item.Nodes = r.bytes()
 	case Remove:
-		item.At = &Place{r.number(), r.number()}
+		item.At = &Position{r.number(), r.number()}
 	case ChangeRules:
 		item.Rules = uint32(r.number())
 	default:

@@ -40,7 +40,7 @@ func (g *group) agree(rules uint32) string {
 func (g *group) change(index uint64, to uint32) Answer {
 	switch {
 	case g.rules == 0:
-		return refuse(NotChanged, "the group has no rules before its first book")
+		return reject(NotChanged, "the group has no rules before its first book")
 	case to == g.next, to == g.rules && g.next == 0:
 		return Answer{IsAgain: true}
 	case to == g.rules:

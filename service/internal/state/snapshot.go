@@ -42,9 +42,9 @@ func (s *State) Freeze() func(io.Writer) error {
 
 // A frozen is a book as a snapshot is to have it: one that is there, or the entry that removed it.
 type frozen struct {
-	name  string
-	one   *one
-	ended uint64
+	name      string
+	bookEntry *bookEntry
+	ended     uint64
 }
 
 // frozen are the books of now, by name.
@@ -54,8 +54,8 @@ func (s *State) frozen() []frozen {
 	s.mu.RLock()
 	defer s.mu.RUnlock()
 	var all []frozen
-	for name, o := range s.books {
-		all = append(all, frozen{name: name, one: o})
+	for name, e := range s.books {
+		all = append(all, frozen{name: name, bookEntry: e})
 	}
 	for name, ended := range s.ended {
 		if ended > s.index {
@@ -130,29 +130,29 @@ func damaged(why error) error { return fmt.Errorf("%w: %v", engine.ErrDamaged, w
 func (s *State) record(it frozen) ([]byte, error) {
 	s.entry.Lock()
 	defer s.entry.Unlock()
-	o := it.one
-	if o == nil {
+	e := it.bookEntry
+	if e == nil {
 		return recordOfEnded(it.name, it.ended), nil
 	}
-	o.mu.Lock()
-	defer o.mu.Unlock()
-	if o.ended > 0 {
-		return recordOfEnded(it.name, o.ended), nil
-	} else if o.book == nil {
+	e.mu.Lock()
+	defer e.mu.Unlock()
+	if e.ended > 0 {
+		return recordOfEnded(it.name, e.ended), nil
+	} else if e.book == nil {
 		return nil, errReplaced
 	}
-	image, err := o.book.Image()
+	image, err := e.book.Image()
 	if err != nil {
 		return nil, err
 	}
 	b := appendBytes(nil, []byte(it.name))
-	b = appendBytes(b, o.nodes)
-	b = appendBytes(b, o.origin)
-	b = binary.AppendUvarint(b, o.opens)
-	b = binary.AppendUvarint(b, o.index)
+	b = appendBytes(b, e.nodes)
+	b = appendBytes(b, e.origin)
+	b = binary.AppendUvarint(b, e.opens)
+	b = binary.AppendUvarint(b, e.index)
 	b = appendBytes(b, image)
-	b = o.appendKeys(b)
-	return o.appendHolders(b), nil
+	b = e.appendKeys(b)
+	return e.appendHolders(b), nil
 }
 
 // recordOfEnded is a book that was removed: it was begun over nodes 0 times, and has the index of the entry that removed it.
@@ -163,10 +163,10 @@ func recordOfEnded(name string, ended uint64) []byte {
 	return append(b, 0, 0, 0) // (no image, no keys, no holders)
 }
 
-func (o *one) appendKeys(b []byte) []byte {
-	b = binary.AppendUvarint(b, uint64(len(o.order)))
-	for _, key := range o.order {
-		kept := o.keys[key]
+func (e *bookEntry) appendKeys(b []byte) []byte {
+	b = binary.AppendUvarint(b, uint64(len(e.order)))
+	for _, key := range e.order {
+		kept := e.keys[key]
 		b = appendBytes(b, []byte(key))
 		b = binary.AppendUvarint(b, kept.asked)
 		b = binary.AppendUvarint(b, kept.answer.Made)
@@ -186,9 +186,9 @@ func bytesOf(reply *book.Reply) []byte {
 	return all
 }
 
-func (o *one) appendHolders(b []byte) []byte {
-	all := make([]fragment, 0, len(o.holders))
-	for key := range o.holders {
+func (e *bookEntry) appendHolders(b []byte) []byte {
+	all := make([]fragment, 0, len(e.holders))
+	for key := range e.holders {
 		all = append(all, key)
 	}
 	sort.Slice(all, func(i, j int) bool {
@@ -197,8 +197,8 @@ func (o *one) appendHolders(b []byte) []byte {
 	b = binary.AppendUvarint(b, uint64(len(all)))
 	for _, key := range all {
 		b = append(binary.AppendUvarint(b, uint64(key.stripe)), key.number)
-		b = binary.AppendUvarint(b, uint64(o.holders[key].epoch))
-		b = appendBytes(b, []byte(o.holders[key].worker))
+		b = binary.AppendUvarint(b, uint64(e.holders[key].epoch))
+		b = appendBytes(b, []byte(e.holders[key].worker))
 	}
 	return b
 }
@@ -209,8 +209,8 @@ func (s *State) Restore(from io.Reader) error {
 	defer s.write.Unlock()
 	read, err := s.readBooks(bufio.NewReaderSize(from, 1<<18))
 	if err != nil {
-		for _, o := range read.books {
-			o.book.Close()
+		for _, e := range read.books {
+			e.book.Close()
 		}
 		return err
 	}
@@ -220,23 +220,23 @@ func (s *State) Restore(from io.Reader) error {
 	s.books, s.ended, s.group = read.books, read.ended, read.group
 	s.mu.Unlock()
 	s.entry.Unlock()
-	for _, o := range old { // a look may still be under way in one of them
-		o.mu.Lock()
-		o.close()
-		o.mu.Unlock()
+	for _, e := range old { // a look may still be under way in one of them
+		e.mu.Lock()
+		e.close()
+		e.mu.Unlock()
 	}
 	return nil
 }
 
 // A content is what a snapshot has.
 type content struct {
-	books map[string]*one
+	books map[string]*bookEntry
 	ended map[string]uint64
 	group group
 }
 
 func (s *State) readBooks(r io.Reader) (content, error) {
-	read := content{books: map[string]*one{}, ended: map[string]uint64{}}
+	read := content{books: map[string]*bookEntry{}, ended: map[string]uint64{}}
 	mark := make([]byte, len(magic))
 	if _, err := io.ReadFull(r, mark); err != nil {
 		return read, damaged(err)
@@ -266,60 +266,60 @@ func (c *content) next(r io.Reader) error {
 	if err != nil {
 		return err
 	}
-	name, o, err := record.book()
+	name, e, err := record.book()
 	if err != nil {
 		return err
 	}
-	if o.ended > 0 {
-		c.ended[name] = o.ended
+	if e.ended > 0 {
+		c.ended[name] = e.ended
 	} else {
-		c.books[name] = o
+		c.books[name] = e
 	}
 	return nil
 }
 
-func (r *reader) book() (string, *one, error) {
-	o := &one{keys: map[string]kept{}, holders: map[fragment]holding{}, grown: make(chan struct{}), removed: make(chan struct{})}
+func (r *reader) book() (string, *bookEntry, error) {
+	e := &bookEntry{keys: map[string]cachedAnswer{}, holders: map[fragment]holding{}, grown: make(chan struct{}), removed: make(chan struct{})}
 	name := r.text()
-	o.nodes, o.origin = r.bytes(), r.bytes()
-	o.opens, o.index = r.number(), r.number()
-	o.from = o.index
+	e.nodes, e.origin = r.bytes(), r.bytes()
+	e.opens, e.index = r.number(), r.number()
+	e.from = e.index
 	image := r.bytes()
-	r.keys(o)
-	r.holders(o)
+	r.keys(e)
+	r.holders(e)
 	if r.isBad || len(r.rest) > 0 {
 		return "", nil, damaged(errDamaged)
 	}
-	if o.opens == 0 {
-		o.ended = o.index
-		return name, o, nil
+	if e.opens == 0 {
+		e.ended = e.index
+		return name, e, nil
 	}
 	var err error
-	o.nodes = clone(o.nodes) // (not with the image and the keys behind it)
-	if o.book, err = book.OpenImage(o.nodes, image); err != nil {
+	e.nodes = clone(e.nodes) // (not with the image and the keys behind it)
+	if e.book, err = book.OpenImage(e.nodes, image); err != nil {
 		return "", nil, fmt.Errorf("book %s: %w", name, err)
 	}
-	return name, o, nil
+	return name, e, nil
 }
 
 func clone(text []byte) []byte { return append([]byte(nil), text...) }
 
-func (r *reader) keys(o *one) {
+func (r *reader) keys(e *bookEntry) {
 	for count := r.number(); count > 0 && !r.isBad; count-- {
 		key := r.text()
-		kept := kept{asked: r.number()}
+		kept := cachedAnswer{asked: r.number()}
 		kept.answer.Made, kept.answer.Opens = r.number(), r.number()
 		kept.answer.Holder = r.text()
 		reply := (*[unsafe.Sizeof(kept.answer.Reply)]byte)(unsafe.Pointer(&kept.answer.Reply))
 		copy(reply[:], r.bytes())
-		o.keys[key] = kept
-		o.order = append(o.order, key)
+		e.keys[key] = kept
+		e.order = append(e.order, key)
 	}
 }
 
-func (r *reader) holders(o *one) {
+func (r *reader) holders(e *bookEntry) {
 	for count := r.number(); count > 0 && !r.isBad; count-- {
 		key := fragment{uint16(r.number()), r.byte()}
-		o.holders[key] = holding{epoch: uint32(r.number()), worker: r.text()}
+		e.holders[key] = holding{epoch: uint32(r.number()), worker: r.text()}
 	}
 }

@@ -22,35 +22,35 @@ const (
 	TailOfBook = 10000 // entries that stay beside it then, for those who read its log
 )
 
-// A Refusal is an answer of the service itself: nothing was changed.
-type Refusal uint8
+// A Rejection is a refusal by the service itself, and not by the rules: nothing was changed.
+type Rejection uint8
 
-// The refusals of the service.
+// The rejections.
 const (
-	NoBook       Refusal = 1 + iota // there is no such book
-	BookExists                      // it was made over other nodes, or in another image
-	TooManyBooks                    // there are MostBooks
-	BadText                         // the nodes or the image are refused; Words has why
-	KeyReused                       // the key came with another call
-	Moved                           // the book does not stand where the caller saw it
-	OutOfRange                      // a number is out of its range
-	OtherRules                      // the member that proposed it has other rules, or the group goes to others
-	NotChanged                      // there are no rules yet to go on from
+	NoBook       Rejection = 1 + iota // there is no such book
+	BookExists                        // it was made over other nodes, or in another image
+	TooManyBooks                      // there are MostBooks
+	BadText                           // the nodes or the image are refused; Words has why
+	KeyReused                         // the key came with another call
+	Moved                             // the book does not stand where the caller saw it
+	OutOfRange                        // a number is out of its range
+	OtherRules                        // the member that proposed it has other rules, or the group goes to others
+	NotChanged                        // there are no rules yet to go on from
 )
 
 // An Answer is what an item was answered.
 type Answer struct {
-	Made    uint64 // the number of the entry in its book; 0: none was made
-	Opens   uint64 // of the book, how often it was begun over nodes or an image
-	Reply   book.Reply
-	Holder  string // of a refusal because another worker holds the lease: its name
-	IsAgain bool   // the key had been answered, or the book made
-	Refusal Refusal
-	Words   string // of a Refusal
+	Made     uint64 // the number of the entry in its book; 0: none was made
+	Opens    uint64 // of the book, how often it was begun over nodes or an image
+	Reply    book.Reply
+	Holder   string // of a refusal because another worker holds the lease: its name
+	IsAgain  bool   // the key had been answered, or the book made
+	Rejected Rejection
+	Words    string // of a Rejection
 }
 
-// kept is the answer to a key, with what was asked.
-type kept struct {
+// A cachedAnswer is the answer to a key, with what was asked.
+type cachedAnswer struct {
 	asked  uint64
 	answer Answer
 }
@@ -67,8 +67,8 @@ type holding struct {
 	epoch  uint32
 }
 
-// one is a book and what stands beside it. Its lock orders calls and looks.
-type one struct {
+// A bookEntry is a book and what stands beside it. Its lock orders calls and looks.
+type bookEntry struct {
 	mu      sync.Mutex
 	book    *book.Book // nil once it is removed, or a restore has put another in its place
 	nodes   []byte
@@ -77,7 +77,7 @@ type one struct {
 	index   uint64 // of the last entry of the log that named it
 	from    uint64 // of the image that it began in: the entries up to here are in it
 	ended   uint64 // the entry that removed it; 0: none did
-	keys    map[string]kept
+	keys    map[string]cachedAnswer
 	order   []string     // the keys, the oldest first
 	tail    []book.Entry // the last entries before those that the book has
 	holders map[fragment]holding
@@ -90,7 +90,7 @@ type State struct {
 	entry sync.Mutex   // held while an entry is applied: no image is taken in the middle of one
 	index uint64       // of the last entry that was applied
 	mu    sync.RWMutex // of the map and the rules; each book has a lock of its own
-	books map[string]*one
+	books map[string]*bookEntry
 	ended map[string]uint64 // books of a snapshot that was written after they were removed: the entries that removed them
 	group group
 	ours  uint32     // the rules of this library
@@ -98,7 +98,7 @@ type State struct {
 }
 
 // New is the state before the first entry.
-func New() *State { return &State{books: map[string]*one{}, ours: libraryRules()} }
+func New() *State { return &State{books: map[string]*bookEntry{}, ours: libraryRules()} }
 
 // Apply makes the changes of one entry of the log, and returns a []Answer with one for each item. Entries come one after the
 // other, with rising indexes. An error means that this member can't go on: its books would not be those of the others.
@@ -120,8 +120,8 @@ func (s *State) answers(index uint64, payload []byte) ([]Answer, error) {
 	}
 	answers := make([]Answer, len(items))
 	for i, item := range items {
-		refused := s.judge(index, rules, item, &answers[i])
-		if refused {
+		isRejected := s.judge(index, rules, item, &answers[i])
+		if isRejected {
 			continue
 		}
 		if rules != s.ours {
@@ -145,15 +145,17 @@ func (s *State) judge(index uint64, rules uint32, item *Item, answer *Answer) bo
 		return true
 	}
 	if why := s.group.agree(rules); why != "" {
-		*answer = refuse(OtherRules, why)
+		*answer = reject(OtherRules, why)
 		return true
 	}
 	return false
 }
 
-func refuse(refusal Refusal, words string) Answer { return Answer{Refusal: refusal, Words: words} }
+func reject(rejection Rejection, words string) Answer {
+	return Answer{Rejected: rejection, Words: words}
+}
 
-func (s *State) find(name string) *one {
+func (s *State) find(name string) *bookEntry {
 	s.mu.RLock()
 	defer s.mu.RUnlock()
 	return s.books[name]
@@ -163,58 +165,58 @@ func (s *State) apply(index uint64, item *Item) (Answer, error) {
 	if index <= s.ended[item.Book] {
 		return Answer{}, nil // the snapshot is from after the book was removed. Nobody waits for this
 	}
-	o := s.find(item.Book)
+	e := s.find(item.Book)
 	if item.Action == Create {
-		return s.create(index, o, item)
+		return s.create(index, e, item)
 	}
-	if o == nil {
-		return refuse(NoBook, "there is no book "+item.Book), nil
+	if e == nil {
+		return reject(NoBook, "there is no book "+item.Book), nil
 	}
-	o.mu.Lock()
-	defer o.mu.Unlock()
-	if index <= o.from {
+	e.mu.Lock()
+	defer e.mu.Unlock()
+	if index <= e.from {
 		return Answer{}, nil // the image has it, which is newer than the index of its snapshot. Nobody waits for this
 	}
 	switch item.Action {
 	case Remove:
-		return s.remove(index, o, item)
+		return s.remove(index, e, item)
 	case Reopen:
-		o.index = index
-		return o.reopen(item)
+		e.index = index
+		return e.reopen(item)
 	}
-	o.index = index
-	return o.answer(item)
+	e.index = index
+	return e.answer(item)
 }
 
 // remove ends a book if it stands where the caller saw it. Whoever looks at it or waits for its entries hears that it is gone.
-func (s *State) remove(index uint64, o *one, item *Item) (Answer, error) {
-	if answer := o.moved(item); answer.Refusal != 0 {
+func (s *State) remove(index uint64, e *bookEntry, item *Item) (Answer, error) {
+	if answer := e.moved(item); answer.Rejected != 0 {
 		return answer, nil
 	}
-	answer := Answer{Made: o.book.Made(), Opens: o.opens}
+	answer := Answer{Made: e.book.Made(), Opens: e.opens}
 	s.mu.Lock()
 	delete(s.books, item.Book)
 	s.mu.Unlock()
-	o.ended = index
-	close(o.removed)
-	o.close()
+	e.ended = index
+	close(e.removed)
+	e.close()
 	return answer, nil
 }
 
 // close frees a book that nobody finds any more. Its lock is held.
-func (o *one) close() {
-	o.book.Close()
-	o.book = nil
-	close(o.grown)
+func (e *bookEntry) close() {
+	e.book.Close()
+	e.book = nil
+	close(e.grown)
 }
 
-// moved is a refusal if a book does not stand where the caller saw it.
-func (o *one) moved(item *Item) Answer {
-	stand := Place{o.book.Made(), o.opens}
-	if item.At == nil || *item.At == stand {
+// moved is a rejection if a book does not stand where the caller saw it.
+func (e *bookEntry) moved(item *Item) Answer {
+	at := Position{e.book.Made(), e.opens}
+	if item.At == nil || *item.At == at {
 		return Answer{}
 	}
-	return refuse(Moved, fmt.Sprintf("the book stands at %d, opened %d times", stand.Made, stand.Opens))
+	return reject(Moved, fmt.Sprintf("the book stands at %d, opened %d times", at.Made, at.Opens))
 }
 
 // open makes a book of texts. A text that is refused is so on all members; an error is anything else.
@@ -227,27 +229,27 @@ func open(nodes, image []byte) (*book.Book, *Answer, error) {
 		b, err = book.OpenImage(nodes, image)
 	}
 	if book.IsOfText(err) {
-		refused := refuse(BadText, err.Error())
-		return nil, &refused, nil
+		rejected := reject(BadText, err.Error())
+		return nil, &rejected, nil
 	}
 	return b, nil, err
 }
 
-func (s *State) create(index uint64, o *one, item *Item) (Answer, error) {
+func (s *State) create(index uint64, e *bookEntry, item *Item) (Answer, error) {
 	origin := checksum(item.Nodes, item.Image)
-	if o != nil && string(o.origin) == string(origin) {
-		return Answer{Opens: o.opens, IsAgain: true}, nil
-	} else if o != nil {
-		return refuse(BookExists, "the book was made with other nodes or another image"), nil
+	if e != nil && string(e.origin) == string(origin) {
+		return Answer{Opens: e.opens, IsAgain: true}, nil
+	} else if e != nil {
+		return reject(BookExists, "the book was made with other nodes or another image"), nil
 	}
 	if s.count(index) >= MostBooks {
-		return refuse(TooManyBooks, fmt.Sprintf("there are %d books already", MostBooks)), nil
+		return reject(TooManyBooks, fmt.Sprintf("there are %d books already", MostBooks)), nil
 	}
-	b, refused, err := open(item.Nodes, item.Image)
-	if refused != nil || err != nil {
-		return orNone(refused), err
+	b, rejected, err := open(item.Nodes, item.Image)
+	if rejected != nil || err != nil {
+		return orNone(rejected), err
 	}
-	made := &one{book: b, nodes: clone(item.Nodes), origin: origin, opens: 1, index: index, keys: map[string]kept{},
+	made := &bookEntry{book: b, nodes: clone(item.Nodes), origin: origin, opens: 1, index: index, keys: map[string]cachedAnswer{},
 		holders: map[fragment]holding{}, grown: make(chan struct{}), removed: make(chan struct{})}
 	answer := Answer{Made: b.Made(), Opens: 1}
 	s.mu.Lock()
@@ -276,94 +278,94 @@ func orNone(answer *Answer) Answer {
 }
 
 // reopen goes on over other nodes: a book that begins in the image of this one takes its place.
-func (o *one) reopen(item *Item) (Answer, error) {
-	if string(o.nodes) == string(item.Nodes) {
-		return Answer{Made: o.book.Made(), Opens: o.opens, IsAgain: true}, nil
+func (e *bookEntry) reopen(item *Item) (Answer, error) {
+	if string(e.nodes) == string(item.Nodes) {
+		return Answer{Made: e.book.Made(), Opens: e.opens, IsAgain: true}, nil
 	}
-	image, err := o.book.Image()
+	image, err := e.book.Image()
 	if err != nil {
 		return Answer{}, err
 	}
-	b, refused, err := open(item.Nodes, image)
-	if refused != nil || err != nil {
-		return orNone(refused), err
+	b, rejected, err := open(item.Nodes, image)
+	if rejected != nil || err != nil {
+		return orNone(rejected), err
 	}
-	if err := o.keepTail(); err != nil {
+	if err := e.keepTail(); err != nil {
 		b.Close()
 		return Answer{}, err
 	}
-	o.book.Close()
-	o.book, o.nodes = b, clone(item.Nodes)
-	o.opens++
-	o.grow()
-	return Answer{Made: b.Made(), Opens: o.opens}, nil
+	e.book.Close()
+	e.book, e.nodes = b, clone(item.Nodes)
+	e.opens++
+	e.grow()
+	return Answer{Made: b.Made(), Opens: e.opens}, nil
 }
 
 // grow wakes those who wait for the book's next entry.
-func (o *one) grow() {
-	close(o.grown)
-	o.grown = make(chan struct{})
+func (e *bookEntry) grow() {
+	close(e.grown)
+	e.grown = make(chan struct{})
 }
 
-func (o *one) answer(item *Item) (Answer, error) {
+func (e *bookEntry) answer(item *Item) (Answer, error) {
 	asked := item.fingerprint()
-	if before, ok := o.keys[item.Key]; ok && item.Key != "" {
+	if before, ok := e.keys[item.Key]; ok && item.Key != "" {
 		if before.asked != asked {
-			return refuse(KeyReused, "the key was used for another call"), nil
+			return reject(KeyReused, "the key was used for another call"), nil
 		}
 		again := before.answer
 		again.IsAgain = true
 		return again, nil
 	}
-	answer, err := o.call(item)
-	if err == nil && answer.Refusal == 0 && item.Key != "" {
-		o.keep(item.Key, kept{asked, answer})
+	answer, err := e.call(item)
+	if err == nil && answer.Rejected == 0 && item.Key != "" {
+		e.keep(item.Key, cachedAnswer{asked, answer})
 	}
 	return answer, err
 }
 
 // keep notes the answer to a key, and forgets the oldest.
-func (o *one) keep(key string, answer kept) {
-	o.keys[key] = answer
-	o.order = append(o.order, key)
-	if len(o.order) > KeysOfBook {
-		delete(o.keys, o.order[0])
-		o.order = o.order[1:]
+func (e *bookEntry) keep(key string, answer cachedAnswer) {
+	e.keys[key] = answer
+	e.order = append(e.order, key)
+	if len(e.order) > KeysOfBook {
+		delete(e.keys, e.order[0])
+		e.order = e.order[1:]
 	}
 }
 
-func (o *one) call(item *Item) (Answer, error) {
-	if answer := o.moved(item); answer.Refusal != 0 {
+func (e *bookEntry) call(item *Item) (Answer, error) {
+	if answer := e.moved(item); answer.Rejected != 0 {
 		return answer, nil
 	}
-	if lease, holder, isOther := o.ofAnother(item); isOther {
-		return Answer{Opens: o.opens, Reply: book.OfNotHolder(lease.Holder), Holder: holder}, nil
+	if lease, holder, isOther := e.ofAnother(item); isOther {
+		return Answer{Opens: e.opens, Reply: book.OfNotHolder(lease.Holder), Holder: holder}, nil
 	}
-	entry, err := o.book.Call(item.Session, item.Command)
+	entry, err := e.book.Call(item.Session, item.Command)
 	if book.IsOutOfRange(err) {
-		return refuse(OutOfRange, err.Error()), nil // alike on all members
+		return reject(OutOfRange, err.Error()), nil // alike on all members
 	} else if err != nil {
 		return Answer{}, err
 	}
-	if err := o.note(item, &entry.Reply); err != nil {
+	if err := e.note(item, &entry.Reply); err != nil {
 		return Answer{}, err
 	}
-	made := o.book.Made()
-	o.grow()
-	return Answer{Made: made, Opens: o.opens, Reply: entry.Reply}, o.forget(made)
+	made := e.book.Made()
+	e.grow()
+	return Answer{Made: made, Opens: e.opens, Reply: entry.Reply}, e.forget(made)
 }
 
 // ofAnother tells whether a report is about the live lease of another worker.
-func (o *one) ofAnother(item *Item) (lease book.LeaseRow, holder string, isOther bool) {
+func (e *bookEntry) ofAnother(item *Item) (lease book.LeaseRow, holder string, isOther bool) {
 	command := item.Command
 	if command.Kind != book.Done && command.Kind != book.Abandon {
 		return
 	}
-	held, isHeld := o.holders[fragment{command.Stripe, command.Fragment}]
+	held, isHeld := e.holders[fragment{command.Stripe, command.Fragment}]
 	if item.Worker == "" && !isHeld {
 		return
 	}
-	lease, err := o.book.Lease(command.Stripe, command.Fragment)
+	lease, err := e.book.Lease(command.Stripe, command.Fragment)
 	if err != nil || lease.Epoch != command.Epoch {
 		return // the rules refuse it
 	}
@@ -374,79 +376,79 @@ func (o *one) ofAnother(item *Item) (lease book.LeaseRow, holder string, isOther
 }
 
 // note keeps who holds which lease, after a call.
-func (o *one) note(item *Item, reply *book.Reply) error {
+func (e *bookEntry) note(item *Item, reply *book.Reply) error {
 	switch reply.Kind {
 	case book.Granted:
 		key := fragment{reply.Lease.Stripe, reply.Lease.Fragment}
-		delete(o.holders, key)
+		delete(e.holders, key)
 		if item.Worker != "" {
-			o.holders[key] = holding{item.Worker, reply.Lease.Epoch}
+			e.holders[key] = holding{item.Worker, reply.Lease.Epoch}
 		}
 	case book.Ended:
-		delete(o.holders, fragment{item.Command.Stripe, item.Command.Fragment})
+		delete(e.holders, fragment{item.Command.Stripe, item.Command.Fragment})
 	case book.Dropped:
 		for f := uint8(0); f < book.Fragments; f++ {
-			delete(o.holders, fragment{item.Command.Stripe, f})
+			delete(e.holders, fragment{item.Command.Stripe, f})
 		}
 	case book.Ticked:
 		if reply.Ended > 0 {
-			return o.prune()
+			return e.prune()
 		}
 	case book.Changed:
 		if item.Command.Kind == book.Fail {
-			return o.prune()
+			return e.prune()
 		}
 	}
 	return nil
 }
 
 // prune forgets the holders of leases that have ended.
-func (o *one) prune() error {
-	if len(o.holders) == 0 {
+func (e *bookEntry) prune() error {
+	if len(e.holders) == 0 {
 		return nil
 	}
-	rows, err := o.book.LeaseRows()
+	rows, err := e.book.LeaseRows()
 	if err != nil {
 		return err
 	}
 	live := map[fragment]holding{}
 	for _, row := range rows {
 		key := fragment{row.Stripe, row.Fragment}
-		if held, ok := o.holders[key]; ok && held.epoch == row.Epoch {
+		if held, ok := e.holders[key]; ok && held.epoch == row.Epoch {
 			live[key] = held
 		}
 	}
-	o.holders = live
+	e.holders = live
 	return nil
 }
 
 // forget keeps the history short. It changes no reply, so members may differ in what they still have.
-func (o *one) forget(made uint64) error {
-	if made-o.book.Before() < ForgetAt {
+func (e *bookEntry) forget(made uint64) error {
+	if made-e.book.Before() < ForgetAt {
 		return nil
 	}
-	if err := o.keepTail(); err != nil {
+	if err := e.keepTail(); err != nil {
 		return err
 	}
-	return o.book.Forget()
+	return e.book.Forget()
 }
 
 // keepTail copies the last entries, which the book is about to lose.
-func (o *one) keepTail() error {
-	made, before := o.book.Made(), o.book.Before()
+func (e *bookEntry) keepTail() error {
+	made, before := e.book.Made(), e.book.Before()
 	from := before
 	if made-before > TailOfBook {
 		from = made - TailOfBook
 	}
 	tail := make([]book.Entry, made-from)
 	if len(tail) > 0 {
-		if _, err := o.book.Entries(from, tail); err != nil {
+		if _, err := e.book.Entries(from, tail); err != nil {
 			return err
 		}
 	}
-	o.tail = append(o.tail, tail...)
-	if len(o.tail) > TailOfBook {
-		o.tail = append([]book.Entry(nil), o.tail[len(o.tail)-TailOfBook:]...)
+	e.tail = append(e.tail, tail...)
+	if len(e.tail) > TailOfBook {
+		e.tail = append([]book.Entry(nil), e.tail[len(e.tail)-TailOfBook:]...)
 	}
 	return nil
 }
@@ -465,15 +467,15 @@ func (f *Forgotten) Error() string {
 // A View is what a look sees: the book, which nobody else uses meanwhile, and where it stands.
 type View struct {
 	*book.Book
-	Stand Place
-	Nodes []byte
-	one   *one
+	Position  Position
+	Nodes     []byte
+	bookEntry *bookEntry
 }
 
 // Entries returns entries behind a place, at most so many, and fewer at the seam of those that the book has; none only if there
 // are none. The error is a Forgotten if the first of them is not in memory.
 func (v *View) Entries(place uint64, most int) ([]book.Entry, error) {
-	before, tail := v.Before(), v.one.tail
+	before, tail := v.Before(), v.bookEntry.tail
 	first := before - uint64(len(tail))
 	if place < first {
 		return nil, &Forgotten{first}
@@ -491,10 +493,10 @@ func (v *View) Entries(place uint64, most int) ([]book.Entry, error) {
 }
 
 // Grown is closed at the next entry of the book, or when a snapshot takes its place.
-func (v *View) Grown() <-chan struct{} { return v.one.grown }
+func (v *View) Grown() <-chan struct{} { return v.bookEntry.grown }
 
 // Removed is closed when the book is removed. One that is made under its name later is another one.
-func (v *View) Removed() <-chan struct{} { return v.one.removed }
+func (v *View) Removed() <-chan struct{} { return v.bookEntry.removed }
 
 // A Holder is a worker who was granted a lease by name.
 type Holder struct {
@@ -509,7 +511,7 @@ func (v *View) Holders() ([]Holder, error) {
 	rows, err := v.LeaseRows()
 	holders := []Holder{}
 	for _, row := range rows {
-		if held := v.one.holders[fragment{row.Stripe, row.Fragment}]; held.epoch == row.Epoch {
+		if held := v.bookEntry.holders[fragment{row.Stripe, row.Fragment}]; held.epoch == row.Epoch {
 			holders = append(holders, Holder{row.Stripe, row.Fragment, row.Epoch, held.worker})
 		}
 	}
@@ -519,24 +521,24 @@ func (v *View) Holders() ([]Holder, error) {
 // Look calls a function with a book.
 func (s *State) Look(name string, look func(*View) error) error {
 	for {
-		o := s.find(name)
-		if o == nil {
+		e := s.find(name)
+		if e == nil {
 			return ErrNoBook
 		}
-		if err, isDone := o.look(look); isDone {
+		if err, isDone := e.look(look); isDone {
 			return err
 		}
 		// (it was removed, or a restore has put another in its place meanwhile)
 	}
 }
 
-func (o *one) look(look func(*View) error) (err error, isDone bool) {
-	o.mu.Lock()
-	defer o.mu.Unlock()
-	if o.book == nil {
+func (e *bookEntry) look(look func(*View) error) (err error, isDone bool) {
+	e.mu.Lock()
+	defer e.mu.Unlock()
+	if e.book == nil {
 		return nil, false
 	}
-	return look(&View{o.book, Place{o.book.Made(), o.opens}, o.nodes, o}), true
+	return look(&View{e.book, Position{e.book.Made(), e.opens}, e.nodes, e}), true
 }
 
 // Names are the books, in order.

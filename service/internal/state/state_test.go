@@ -74,15 +74,15 @@ func (p *player) as(worker, line string) Answer {
 
 func (p *player) expect(answer Answer, made uint64, reply string) {
 	p.t.Helper()
-	if answer.Refusal != 0 || answer.Made != made || answer.Reply.String() != reply {
-		p.t.Errorf("%d %v (refusal %d %s), and not %d %s", answer.Made, &answer.Reply, answer.Refusal, answer.Words, made, reply)
+	if answer.Rejected != 0 || answer.Made != made || answer.Reply.String() != reply {
+		p.t.Errorf("%d %v (refusal %d %s), and not %d %s", answer.Made, &answer.Reply, answer.Rejected, answer.Words, made, reply)
 	}
 }
 
-func (p *player) refused(answer Answer, refusal Refusal, words string) {
+func (p *player) rejected(answer Answer, rejection Rejection, words string) {
 	p.t.Helper()
-	if answer.Refusal != refusal || !strings.Contains(answer.Words, words) {
-		p.t.Errorf("%d %q, and not %d %q", answer.Refusal, answer.Words, refusal, words)
+	if answer.Rejected != rejection || !strings.Contains(answer.Words, words) {
+		p.t.Errorf("%d %q, and not %d %q", answer.Rejected, answer.Words, rejection, words)
 	}
 }
 
@@ -141,15 +141,15 @@ func TestBooksAreMade(t *testing.T) {
 		words string
 	}{
 		{"again", Item{Book: "p0", Nodes: twenty}, Answer{Opens: 1, IsAgain: true}, ""},
-		{"otherwise", Item{Book: "p0", Nodes: nodesOf(20, 5)}, Answer{Refusal: BookExists}, "with other nodes"},
-		{"otherwise, with an image", Item{Book: "p0", Nodes: twenty, Image: []byte(image)}, Answer{Refusal: BookExists}, "with other nodes"},
+		{"otherwise", Item{Book: "p0", Nodes: nodesOf(20, 5)}, Answer{Rejected: BookExists}, "with other nodes"},
+		{"otherwise, with an image", Item{Book: "p0", Nodes: twenty, Image: []byte(image)}, Answer{Rejected: BookExists}, "with other nodes"},
 		{"in an image", Item{Book: "p1", Nodes: twenty, Image: []byte(image)}, Answer{Made: 5, Opens: 1}, ""},
 		{"in it again", Item{Book: "p1", Nodes: twenty, Image: []byte(image)}, Answer{Opens: 1, IsAgain: true}, ""},
-		{"over no nodes", Item{Book: "p2"}, Answer{Refusal: BadText}, "the topology has no nodes: topology 2"},
-		{"over a bad node", Item{Book: "p2", Nodes: nodesOf(3, 257)}, Answer{Refusal: BadText}, "out of its range: topology 4 0"},
-		{"in no image", Item{Book: "p2", Nodes: twenty, Image: []byte("image 1\nbefore x")}, Answer{Refusal: BadText}, "image 2"},
+		{"over no nodes", Item{Book: "p2"}, Answer{Rejected: BadText}, "the topology has no nodes: topology 2"},
+		{"over a bad node", Item{Book: "p2", Nodes: nodesOf(3, 257)}, Answer{Rejected: BadText}, "out of its range: topology 4 0"},
+		{"in no image", Item{Book: "p2", Nodes: twenty, Image: []byte("image 1\nbefore x")}, Answer{Rejected: BadText}, "image 2"},
 		{"in another image", Item{Book: "p2", Nodes: twenty, Image: []byte("image 1\nbefore 0\nclock 0\nnode 77 down\nend\n")},
-			Answer{Refusal: BadText}, "the topology has no such node: image 4 cause 6"},
+			Answer{Rejected: BadText}, "the topology has no such node: image 4 cause 6"},
 	} {
 		it.item.Action = Create
 		answer := p.item(&it.item)
@@ -171,19 +171,19 @@ func TestABookGoesOnOverOtherNodes(t *testing.T) {
 	if answer := reopen(twenty); !answer.IsAgain || answer.Opens != 1 {
 		t.Errorf("%+v", answer)
 	}
-	p.refused(reopen(nodesOf(3, 4)), BadText, "the topology has no such node: image 4 cause 6") // the first home is on node 3
-	if answer := reopen(nodesOf(21, 4)); answer.Made != 1 || answer.Opens != 2 || answer.Refusal != 0 {
+	p.rejected(reopen(nodesOf(3, 4)), BadText, "the topology has no such node: image 4 cause 6") // the first home is on node 3
+	if answer := reopen(nodesOf(21, 4)); answer.Made != 1 || answer.Opens != 2 || answer.Rejected != 0 {
 		t.Errorf("%+v", answer)
 	}
 	p.expect(p.call("up 20"), 2, "refused 105")
 	at := call(t, "tick")
-	at.At = &Place{2, 1}
-	p.refused(p.item(at), Moved, "the book stands at 2, opened 2 times")
-	at.At = &Place{2, 2}
+	at.At = &Position{2, 1}
+	p.rejected(p.item(at), Moved, "the book stands at 2, opened 2 times")
+	at.At = &Position{2, 2}
 	p.expect(p.item(at), 3, "ticked 1 0")
 	view(t, p, func(v *View) {
 		var lines []string
-		for place := uint64(0); place < v.Stand.Made; place = uint64(len(lines)) { // (those from before come first, and alone)
+		for place := uint64(0); place < v.Position.Made; place = uint64(len(lines)) { // (those from before come first, and alone)
 			rows, err := v.Entries(place, 10)
 			if err != nil || len(rows) == 0 {
 				t.Fatal(rows, err)
@@ -212,13 +212,13 @@ func view(t *testing.T, p *player, look func(*View)) {
 func TestACallIsMadeOnlyWhereItsCallerSawTheBook(t *testing.T) {
 	p := newPlayer(t)
 	p.call("tick")
-	for _, place := range []Place{{0, 1}, {2, 1}, {1, 0}, {1, 2}} {
+	for _, place := range []Position{{0, 1}, {2, 1}, {1, 0}, {1, 2}} {
 		item := call(t, "tick")
-		item.At = &Place{place.Made, place.Opens}
-		p.refused(p.item(item), Moved, "the book stands at 1, opened 1 times")
+		item.At = &Position{place.Made, place.Opens}
+		p.rejected(p.item(item), Moved, "the book stands at 1, opened 1 times")
 	}
 	item := call(t, "tick")
-	item.At = &Place{1, 1}
+	item.At = &Position{1, 1}
 	p.expect(p.item(item), 2, "ticked 2 0")
 }
 
@@ -238,12 +238,12 @@ func TestAKeyIsAnsweredOnce(t *testing.T) {
 		if !again.IsAgain || again.Made != 1 || again.Reply != first.Reply || again.Opens != 1 {
 			t.Errorf("round %d: %+v", round, again)
 		}
-		q.refused(q.keyed("a", "place 2"), KeyReused, "another call")
+		q.rejected(q.keyed("a", "place 2"), KeyReused, "another call")
 		q.expect(q.keyed("b", "tick"), 3, "ticked 2 0")
 	}
 	item := call(t, "tick")
 	item.Key, item.Session = "b", 2
-	p.refused(p.item(item), KeyReused, "another call")
+	p.rejected(p.item(item), KeyReused, "another call")
 }
 
 func TestTheOldestKeyIsForgotten(t *testing.T) {
@@ -278,8 +278,8 @@ func TestAWorkerReportsItsOwnLeases(t *testing.T) {
 		}
 		view(t, q, func(v *View) {
 			holders, err := v.Holders()
-			if want := []Holder{{1, 3, 1, "w1"}}; err != nil || !reflect.DeepEqual(holders, want) || v.Stand.Made != 5 {
-				t.Error(holders, err, v.Stand)
+			if want := []Holder{{1, 3, 1, "w1"}}; err != nil || !reflect.DeepEqual(holders, want) || v.Position.Made != 5 {
+				t.Error(holders, err, v.Position)
 			}
 		})
 		q.expect(q.as("w2", "done 1 3 2"), 6, "refused 113") // of no live lease: so the rules refuse it
@@ -313,7 +313,7 @@ func TestNoBookIsRefused(t *testing.T) {
 	p := newPlayer(t)
 	item := call(t, "tick")
 	item.Book = "p9"
-	p.refused(p.item(item), NoBook, "there is no book p9")
+	p.rejected(p.item(item), NoBook, "there is no book p9")
 	if err := p.s.Look("p9", func(*View) error { return nil }); err != ErrNoBook {
 		t.Error(err)
 	}
@@ -323,7 +323,7 @@ func TestANumberOutOfRangeIsRefused(t *testing.T) {
 	p := newPlayer(t)
 	item := call(t, "tick")
 	item.Session = 9
-	p.refused(p.item(item), OutOfRange, "out of range")
+	p.rejected(p.item(item), OutOfRange, "out of range")
 	p.expect(p.call("tick"), 1, "ticked 1 0")
 }
 
@@ -341,7 +341,7 @@ func TestOtherRulesAreRefusedByName(t *testing.T) {
 	if err != nil {
 		t.Fatal(err)
 	}
-	p.refused(answers.([]Answer)[0], OtherRules, fmt.Sprintf("the member has rules %d, and the group has rules %d", others, book.Rules()))
+	p.rejected(answers.([]Answer)[0], OtherRules, fmt.Sprintf("the member has rules %d, and the group has rules %d", others, book.Rules()))
 	p.index = 2
 	p.expect(p.call("tick"), 1, "ticked 1 0")
 	fresh := New() // the group's are not ours: this member is wrong here
@@ -379,7 +379,7 @@ func TestAGroupGoesToOtherRules(t *testing.T) {
 	ours, next := book.Rules(), book.Rules()+1
 	p := newPlayer(t)
 	p.call("place 1")
-	if answer := p.item(&Item{Action: ChangeRules, Rules: ours}); !answer.IsAgain || answer.Refusal != 0 {
+	if answer := p.item(&Item{Action: ChangeRules, Rules: ours}); !answer.IsAgain || answer.Rejected != 0 {
 		t.Errorf("to its own rules: %+v", answer)
 	}
 	p.item(&Item{Action: ChangeRules, Rules: next})
@@ -387,10 +387,10 @@ func TestAGroupGoesToOtherRules(t *testing.T) {
 		t.Errorf("%+v", have)
 	}
 	words := fmt.Sprintf("the group goes from rules %d to rules %d, and this member has rules %d", ours, next, ours)
-	p.refused(p.call("tick"), OtherRules, words)
+	p.rejected(p.call("tick"), OtherRules, words)
 	o := p.other(next, p.snapshot())
-	o.refused(o.call("tick"), OtherRules, words) // (an entry of a member with the rules of before)
-	p.refused(p.call("tick"), OtherRules, words)
+	o.rejected(o.call("tick"), OtherRules, words) // (an entry of a member with the rules of before)
+	p.rejected(p.call("tick"), OtherRules, words)
 	entry := withRules(byte(next), call(t, "tick"))
 	answers, err := o.s.Apply(o.index+1, entry)
 	if err != nil {
@@ -405,7 +405,7 @@ func TestAGroupGoesToOtherRules(t *testing.T) {
 		t.Errorf("a member that was not restarted: %v", err)
 	}
 	o.index++
-	o.refused(o.call("tick"), OtherRules, fmt.Sprintf("the member has rules %d, and the group has rules %d", ours, next))
+	o.rejected(o.call("tick"), OtherRules, fmt.Sprintf("the member has rules %d, and the group has rules %d", ours, next))
 }
 
 func TestAChangeOfRulesIsTakenBack(t *testing.T) {
@@ -419,7 +419,7 @@ func TestAChangeOfRulesIsTakenBack(t *testing.T) {
 	p.item(&Item{Action: ChangeRules, Rules: ours})
 	p.expect(p.call("tick"), 1, "ticked 1 0")
 	none := &player{t: t, s: New()}
-	none.refused(none.item(&Item{Action: ChangeRules, Rules: ours + 1}), NotChanged, "before its first book")
+	none.rejected(none.item(&Item{Action: ChangeRules, Rules: ours + 1}), NotChanged, "before its first book")
 }
 
 func TestAnEntryThatIsDamagedIsRefused(t *testing.T) {
@@ -439,8 +439,8 @@ func TestAnEntryThatIsDamagedIsRefused(t *testing.T) {
 
 func TestItemsAreReadAsTheyWereWritten(t *testing.T) {
 	items := []*Item{
-		{Action: Remove, Book: "p0", At: &Place{1 << 60, 3}},
-		{Action: Call, Book: "p0", Key: "k", Worker: "w", Session: 8, Command: call(t, "done 4095 15 4294967295").Command, At: &Place{1 << 60, 3}},
+		{Action: Remove, Book: "p0", At: &Position{1 << 60, 3}},
+		{Action: Call, Book: "p0", Key: "k", Worker: "w", Session: 8, Command: call(t, "done 4095 15 4294967295").Command, At: &Position{1 << 60, 3}},
 		{Action: Call, Book: "p0", Session: 1, Command: call(t, "upgrade 255").Command},
 		{Action: Call, Book: "p0", Session: 1, Command: call(t, "join 65535").Command},
 		{Action: Create, Book: "p1", Nodes: []byte("n"), Image: []byte("i")},
@@ -512,19 +512,19 @@ func TestABookIsRemoved(t *testing.T) {
 	var grown <-chan struct{}
 	view(t, p, func(v *View) { grown = v.Grown() })
 	remove := func(made, opens uint64) Answer {
-		return p.item(&Item{Action: Remove, Book: "p0", At: &Place{made, opens}})
+		return p.item(&Item{Action: Remove, Book: "p0", At: &Position{made, opens}})
 	}
-	p.refused(remove(1, 1), Moved, "the book stands at 2, opened 1 times")
-	p.refused(remove(2, 2), Moved, "the book stands at 2, opened 1 times")
-	if answer := remove(2, 1); answer.Refusal != 0 || answer.Made != 2 || answer.Opens != 1 {
+	p.rejected(remove(1, 1), Moved, "the book stands at 2, opened 1 times")
+	p.rejected(remove(2, 2), Moved, "the book stands at 2, opened 1 times")
+	if answer := remove(2, 1); answer.Rejected != 0 || answer.Made != 2 || answer.Opens != 1 {
 		t.Errorf("%+v", answer)
 	}
 	<-grown // whoever waits for an entry hears of it
 	if err := p.s.Look("p0", func(*View) error { return nil }); err != ErrNoBook || len(p.s.Names()) != 0 {
 		t.Errorf("%v, %v", err, p.s.Names())
 	}
-	p.refused(remove(2, 1), NoBook, "there is no book p0")
-	p.refused(p.call("tick"), NoBook, "there is no book p0")
+	p.rejected(remove(2, 1), NoBook, "there is no book p0")
+	p.rejected(p.call("tick"), NoBook, "there is no book p0")
 	if names := p.restored(p.snapshot()).s.Names(); len(names) != 0 {
 		t.Errorf("after a restart: %v", names)
 	}
@@ -535,7 +535,7 @@ func TestABookIsRemoved(t *testing.T) {
 // A book is removed while a snapshot is written, before its image is taken. A member that begins in that snapshot has to pass
 // over what was done to the book meanwhile, and to apply what came later.
 func TestASnapshotKnowsWhatWasRemovedMeanwhile(t *testing.T) {
-	at := func(book string, made uint64) *Item { return &Item{Action: Remove, Book: book, At: &Place{made, 1}} }
+	at := func(book string, made uint64) *Item { return &Item{Action: Remove, Book: book, At: &Position{made, 1}} }
 	again, tick := &Item{Action: Create, Book: "p0", Nodes: twenty}, call(t, "tick")
 	for name, it := range map[string]struct {
 		before, after []*Item // while the snapshot is written: before and after its images are taken
@@ -584,12 +584,12 @@ func TestABookThatIsRemovedLaterStillTakesRoom(t *testing.T) {
 		p.item(&Item{Action: Create, Book: fmt.Sprintf("p%d", i), Nodes: nodesOf(1, 1)})
 	}
 	write, begun := p.s.Freeze(), p.index
-	later := func(q *player) []Refusal {
-		return []Refusal{q.item(&Item{Action: Create, Book: "q", Nodes: twenty}).Refusal,
-			q.item(&Item{Action: Remove, Book: "p0", At: &Place{0, 1}}).Refusal,
-			q.item(&Item{Action: Create, Book: "r", Nodes: twenty}).Refusal}
+	later := func(q *player) []Rejection {
+		return []Rejection{q.item(&Item{Action: Create, Book: "q", Nodes: twenty}).Rejected,
+			q.item(&Item{Action: Remove, Book: "p0", At: &Position{0, 1}}).Rejected,
+			q.item(&Item{Action: Create, Book: "r", Nodes: twenty}).Rejected}
 	}
-	if found := later(p); !reflect.DeepEqual(found, []Refusal{TooManyBooks, 0, 0}) {
+	if found := later(p); !reflect.DeepEqual(found, []Rejection{TooManyBooks, 0, 0}) {
 		t.Fatal(found)
 	}
 	var text bytes.Buffer
@@ -607,7 +607,7 @@ func TestABookThatIsRemovedLaterStillTakesRoom(t *testing.T) {
 func (p *player) made() map[string]uint64 {
 	made := map[string]uint64{}
 	for _, name := range p.s.Names() {
-		if err := p.s.Look(name, func(v *View) error { made[name] = v.Stand.Made; return nil }); err != nil {
+		if err := p.s.Look(name, func(v *View) error { made[name] = v.Position.Made; return nil }); err != nil {
 			p.t.Error(err)
 		}
 	}
@@ -640,8 +640,8 @@ func TestEntriesAreForgottenInTime(t *testing.T) {
 		p.item(item)
 	}
 	view(t, p, func(v *View) {
-		if v.Before() != ForgetAt || v.Stand.Made != ForgetAt+10 {
-			t.Error(v.Before(), v.Stand)
+		if v.Before() != ForgetAt || v.Position.Made != ForgetAt+10 {
+			t.Error(v.Before(), v.Position)
 		}
 		for _, place := range []uint64{ForgetAt - TailOfBook, ForgetAt - 1, ForgetAt, ForgetAt + 9} {
 			rows, err := v.Entries(place, 1)
@@ -678,7 +678,7 @@ func TestALookWaitsForTheNextEntry(t *testing.T) {
 }
 
 func FuzzDecode(f *testing.F) {
-	f.Add(Encode([]*Item{{Action: Call, Book: "p0", Key: "k", Session: 1, Command: book.Command{Kind: book.Tick}, At: &Place{1, 1}}}))
+	f.Add(Encode([]*Item{{Action: Call, Book: "p0", Key: "k", Session: 1, Command: book.Command{Kind: book.Tick}, At: &Position{1, 1}}}))
 	f.Add(Encode([]*Item{{Action: Create, Book: "p0", Nodes: twenty}, {Action: Reopen, Book: "p0", Nodes: twenty}}))
 	f.Add([]byte{Form, 1, 200, 200, 200, 200, 200, 1})
 	f.Fuzz(func(t *testing.T, payload []byte) {

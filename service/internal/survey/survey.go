@@ -15,7 +15,7 @@ import (
 
 // A View is what a look at a book sees. Nobody else uses the book meanwhile.
 type View interface {
-	Stand() state.Place
+	Position() state.Position
 	StripeRows() ([]book.StripeRow, error)
 	NodeRows() ([]book.NodeRow, error)
 	LeaseRows() ([]book.LeaseRow, error)
@@ -45,7 +45,7 @@ func (b books) Look(name string, look func(View) error) error {
 	return b.State.Look(name, func(v *state.View) error { return look(view{v}) })
 }
 
-func (v view) Stand() state.Place { return v.View.Stand }
+func (v view) Position() state.Position { return v.View.Position }
 
 // A Report is how one book stands.
 type Report struct {
@@ -132,8 +132,8 @@ const term = 3
 
 // take looks at a whole book.
 func take(name string, v View) (*Report, error) {
-	stand := v.Stand()
-	report := &Report{Book: name, N: stand.Made, Opens: stand.Opens, Clock: v.Clock(), Nodes: []Node{}, Risks: []Risk{}, Leases: []Lease{}}
+	at := v.Position()
+	report := &Report{Book: name, N: at.Made, Opens: at.Opens, Clock: v.Clock(), Nodes: []Node{}, Risks: []Risk{}, Leases: []Lease{}}
 	if domain, ok := v.Upgrading(); ok {
 		report.Upgrading = &domain
 	}

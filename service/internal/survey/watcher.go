@@ -152,7 +152,7 @@ func (w *Watcher) track(name string) *track {
 
 // read takes the entries behind the place up to which the book was read, and tells whether there are more.
 func (t *track) read(v View, now time.Time, isNew bool) (bool, error) {
-	made := v.Stand().Made
+	made := v.Position().Made
 	if t.began.IsZero() {
 		t.began = now
 		if err := t.begin(v, made, isNew); err != nil {
@@ -267,8 +267,8 @@ func (w *Watcher) Report(name string) (*Report, error) {
 func (t *track) look(name string, v View, now func() time.Time) (*Report, error) {
 	begin := now()
 	if t.report != nil {
-		stand := v.Stand()
-		isSame := stand.Made == t.report.N && stand.Opens == t.report.Opens
+		at := v.Position()
+		isSame := at.Made == t.report.N && at.Opens == t.report.Opens
 		if age := begin.Sub(t.made); isSame || age < fresh || age < share*t.cost {
 			return t.report, nil
 		}

@@ -87,7 +87,7 @@ func (l *Local) Lead(_ context.Context, id uint64) error {
 }
 
 // Remove does not tell what became of it.
-func (l *Local) Remove(context.Context, uint64) error { return engine.ErrUnknown }
+func (l *Local) Remove(context.Context, uint64) error { return engine.ErrOutcomeUnknown }
 
 // Snapshot is busy.
 func (l *Local) Snapshot() error {

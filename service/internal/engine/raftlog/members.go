@@ -191,11 +191,11 @@ func (n *Node) applyChange(entry *raftpb.Entry) bool {
 	}
 	n.conf = *n.raft.ApplyConfChange(change)
 	if refused != "" {
-		n.changed = append(n.changed, changed{change.ID, engine.Refused(refused)})
+		n.changed = append(n.changed, changeOutcome{change.ID, engine.Refused(refused)})
 		return true
 	}
 	n.connect(change.Type, id, member)
-	n.changed = append(n.changed, changed{change.ID, nil})
+	n.changed = append(n.changed, changeOutcome{change.ID, nil})
 	if change.Type == raftpb.ConfChangeRemoveNode && id == n.cfg.Self.ID {
 		n.end(engine.ErrRemoved)
 		return false
@@ -203,8 +203,8 @@ func (n *Node) applyChange(entry *raftpb.Entry) bool {
 	return true
 }
 
-// A changed is the outcome of a change of members, by the number of its proposal.
-type changed struct {
+// A changeOutcome is the outcome of a change of members, by the number of its proposal.
+type changeOutcome struct {
 	id  uint64
 	err error
 }
@@ -264,9 +264,9 @@ func (n *Node) reconfigure(ctx context.Context, change raftpb.ConfChange) error 
 			return outcome.err
 		case <-time.After(n.cfg.Election):
 		case <-ctx.Done():
-			return engine.ErrUnknown
+			return engine.ErrOutcomeUnknown
 		case <-n.done:
-			return engine.ErrUnknown
+			return engine.ErrOutcomeUnknown
 		}
 	}
 }

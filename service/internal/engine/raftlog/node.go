@@ -63,7 +63,7 @@ type Node struct {
 	mu      sync.Mutex
 	waiting map[uint64]chan outcome  // proposals of this member, by their numbers
 	reads   map[uint64]chan uint64   // read indexes that were asked for
-	behind  []until                  // readers who wait until an index is applied
+	behind  []applyWaiter            // readers who wait until an index is applied
 	members map[uint64]engine.Member // part of the replicated state
 	removed map[uint64]bool          // the same: no number is used again
 	round   *round                   // of the readers who come now
@@ -71,7 +71,7 @@ type Node struct {
 
 	conf     raftpb.ConfState // of the loop
 	isLeader bool             // of the loop
-	changed  []changed        // of the loop: changes of members that nobody was told of yet
+	changed  []changeOutcome  // of the loop: changes of members that nobody was told of yet
 	isSaving bool             // of the loop: a snapshot is being written
 	marked   mark             // of the loop
 	markFile *os.File
@@ -176,7 +176,7 @@ func (n *Node) Propose(ctx context.Context, payload []byte) (interface{}, error)
 		if err == raft.ErrProposalDropped {
 			return nil, engine.ErrNoLeader
 		}
-		return nil, engine.ErrUnknown
+		return nil, engine.ErrOutcomeUnknown
 	}
 	return n.outcome(ctx, id, told)
 }
@@ -203,7 +203,7 @@ func (n *Node) outcome(ctx context.Context, id uint64, told chan outcome) (inter
 	case <-n.done:
 	}
 	n.forgetWaiting(id)
-	return nil, engine.ErrUnknown
+	return nil, engine.ErrOutcomeUnknown
 }
 
 // tell gives a proposal of this member what Apply returned.
@@ -221,7 +221,7 @@ func (n *Node) failAll() {
 	n.mu.Lock()
 	defer n.mu.Unlock()
 	for id, c := range n.waiting {
-		c <- outcome{nil, engine.ErrUnknown}
+		c <- outcome{nil, engine.ErrOutcomeUnknown}
 		delete(n.waiting, id)
 	}
 }

@@ -673,7 +673,7 @@ func (g *group) heard(change func(context.Context, *Node) error) (err error, isA
 	defer cancel()
 	for ctx.Err() == nil {
 		err = change(ctx, g.nodes[g.leader()])
-		if err != engine.ErrUnknown && err != engine.ErrNoLeader {
+		if err != engine.ErrOutcomeUnknown && err != engine.ErrNoLeader {
 			return err, isAgain
 		}
 		isAgain = true
@@ -729,7 +729,7 @@ func (g *group) removeLeader() uint64 {
 	ctx, cancel := context.WithTimeout(context.Background(), long)
 	defer cancel()
 	for g.nodes[gone].Err() == nil && ctx.Err() == nil { // (the leader may end before it hears)
-		if err := g.nodes[gone].Remove(ctx, gone); err != nil && err != engine.ErrUnknown && err != engine.ErrNoLeader {
+		if err := g.nodes[gone].Remove(ctx, gone); err != nil && err != engine.ErrOutcomeUnknown && err != engine.ErrNoLeader {
 			g.t.Fatal(err)
 		}
 	}

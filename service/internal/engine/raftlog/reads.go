@@ -25,8 +25,8 @@ type round struct {
 
 func newRound() *round { return &round{over: make(chan struct{})} }
 
-// until is a reader who waits until an index is applied.
-type until struct {
+// An applyWaiter is a reader who waits until an index is applied.
+type applyWaiter struct {
 	index   uint64
 	reached chan struct{}
 }
@@ -121,7 +121,7 @@ func (n *Node) waitApplied(ctx context.Context, index uint64) error {
 		n.mu.Unlock()
 		return nil
 	}
-	it := until{index, make(chan struct{})}
+	it := applyWaiter{index, make(chan struct{})}
 	n.behind = append(n.behind, it)
 	n.mu.Unlock()
 	select {

@@ -129,7 +129,7 @@ func (b *Book) Replay(name string, s *state.State) error {
 		return err
 	}
 	for i, answer := range told.([]state.Answer) {
-		if answer.Refusal != 0 {
+		if answer.Rejected != 0 {
 			return fmt.Errorf("item %d: %s", i, answer.Words)
 		}
 		if i > 0 && answer.Reply.String() != b.Lines[i-1].Reply {
@@ -218,8 +218,8 @@ func (b Books) Look(name string, look func(survey.View) error) error {
 
 type view struct{ *Book }
 
-func (v view) Stand() state.Place { return state.Place{Made: uint64(v.Shown), Opens: 1} }
-func (v view) Clock() uint32      { return uint32(v.Value("clock")) }
+func (v view) Position() state.Position { return state.Position{Made: uint64(v.Shown), Opens: 1} }
+func (v view) Clock() uint32            { return uint32(v.Value("clock")) }
 
 func (v view) Upgrading() (uint8, bool) {
 	domain, err := strconv.ParseUint(v.Status["upgrading"], 10, 8)

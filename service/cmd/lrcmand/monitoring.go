@@ -14,18 +14,18 @@ import (
 	"lrcman/service/internal/survey"
 )
 
-// shown is what people and Prometheus look at.
-type shown struct {
+// monitoring is what people and Prometheus look at.
+type monitoring struct {
 	metrics *metrics.Metrics
 	page    *page.Page
 	stop    context.CancelFunc
 }
 
-func newShown(e engine.Engine, books *state.State, data string) *shown {
+func newMonitoring(e engine.Engine, books *state.State, data string) *monitoring {
 	ctx, stop := context.WithCancel(context.Background())
 	watcher := survey.NewWatcher(survey.OfState(books), time.Now)
 	go watcher.Watch(ctx)
-	return &shown{
+	return &monitoring{
 		metrics: metrics.New(metrics.Sources{Watcher: watcher, Status: e.Status, Folder: filepath.Join(data, "snap"), Version: "1",
 			Refusal: book.RefusalName}),
 		page: page.New(page.Sources{Watcher: watcher, Status: e.Status, Done: ctx.Done()}),
@@ -34,4 +34,4 @@ func newShown(e engine.Engine, books *state.State, data string) *shown {
 }
 
 // mounts are the paths at which it is.
-func (s *shown) mounts() []httpapi.Mount { return append(s.page.Mounts(), s.metrics.Mount()) }
+func (m *monitoring) mounts() []httpapi.Mount { return append(m.page.Mounts(), m.metrics.Mount()) }
