@@ -1,6 +1,7 @@
 //go:build faulty
 
-// With this tag the files of the log may be small, so that a test sees many of them. service/build never sets it.
+// With this tag the program does what it must never do, so that service/harness can be seen to find it; it takes its library for
+// one of other rules; and the files of its log may be small, so that a test sees many of them. service/build never sets it.
 
 package main
 
@@ -9,10 +10,44 @@ import (
 	"strconv"
 
 	"go.etcd.io/etcd/wal"
+
+	"lrcman/service/internal/state"
 )
 
 func init() {
 	if size, err := strconv.ParseInt(os.Getenv("LRCMAND_LOG_FILE"), 10, 64); err == nil {
 		wal.SegmentSizeBytes = size
 	}
+}
+
+func readKnobs() (k knobs) {
+	if rules, err := strconv.ParseUint(os.Getenv("LRCMAND_RULES"), 10, 32); err == nil {
+		k.state.Rules = uint32(rules)
+	}
+	switch os.Getenv("LRCMAND_FAULT") {
+	case "early":
+		k.replica.TellEarly = peekAnswer
+	case "fresh":
+		k.replica.Age = func(int64) int64 { return 0 }
+	case "nosync": // entries are told before they are on disk
+		k.raftlog.Opened = func(log *wal.WAL) { log.SetUnsafeNoFsync() }
+	case "nonames": // only what etcd's parts sync is synced
+		k.raftlog.SyncFolder = func(string) error { return nil }
+	case "stale": // looks as of now are as old as they happen to be
+		k.raftlog.AskMajority = func() error { return nil }
+	}
+	return k
+}
+
+// peekAnswer answers a call with what it would be told if nothing came between, before it is in the log.
+func peekAnswer(books *state.State, item *state.Item) (answer state.Answer, ok bool) {
+	if item.Action != state.Call {
+		return answer, false
+	}
+	err := books.Look(item.Book, func(view *state.View) (err error) {
+		answer.Made, answer.Opens = view.Position.Made+1, view.Position.Opens
+		answer.Reply, err = view.Peek(item.Session, item.Command)
+		return err
+	})
+	return answer, err == nil
 }

@@ -52,13 +52,16 @@ func run(o *options, logger *log.Logger) int {
 		logger.Print(err)
 		return statusUsage
 	}
-	books := state.New()
-	node, err := raftlog.Start(o.config(logger), books)
+	knobs := readKnobs()
+	books, cfg := state.NewWith(knobs.state), o.config(logger)
+	cfg.Knobs = knobs.raftlog
+	node, err := raftlog.Start(cfg, books)
 	if err != nil {
 		logger.Print(err)
 		return statusFault
 	}
-	r := replica.New(replica.Config{Engine: node, State: books, Timeout: o.timeout, Tick: o.tickTime(), Log: logger})
+	r := replica.New(replica.Config{Engine: node, State: books, Timeout: o.timeout, Tick: o.tickTime(), Log: logger,
+		Knobs: knobs.replica})
 	monitoring := newMonitoring(node, books, o.data)
 	api := httpapi.New(httpapi.Config{Engine: node, State: books, Replica: r, Rights: o.rights, Rates: o.rates(), Timeout: o.timeout,
 		Mounts: monitoring.mounts(), Observe: monitoring.metrics.Observe})
@@ -66,7 +69,7 @@ func run(o *options, logger *log.Logger) int {
 	go r.Run(ctx)
 	server := api.Server()
 	go serve(server, listener, config, logger)
-	logger.Printf("member %d serves %s, rules %d", o.id, o.listen, state.LibraryRules())
+	logger.Printf("member %d serves %s, rules %d", o.id, o.listen, books.Rules())
 	status := wait(node, logger)
 	monitoring.stop()
 	stop()

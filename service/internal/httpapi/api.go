@@ -27,11 +27,9 @@ import (
 const (
 	mostConnections = 1024
 	mostStreams     = 64
+	bodyTime        = 10 * time.Second // in which a body has to come
 	writeTime       = 30 * time.Second // in which a client has to take an answer, or a part of a stream
 )
-
-// bodyTime is the time in which a body has to come. (Tests do not wait so long)
-var bodyTime = 10 * time.Second
 
 // A Config says what an API answers of, and whom.
 type Config struct {
@@ -43,6 +41,12 @@ type Config struct {
 	Timeout time.Duration // of one request
 	Mounts  []Mount       // what other packages answer
 	Observe func(Served)  // is told of each request; nil: nobody is
+	Knobs   Knobs
+}
+
+// Knobs are what tests do otherwise. Those that are zero change nothing.
+type Knobs struct {
+	BodyTime time.Duration // in which a body has to come
 }
 
 // An API answers clients.
@@ -55,6 +59,9 @@ type API struct {
 
 // New makes an API.
 func New(cfg Config) *API {
+	if cfg.Knobs.BodyTime == 0 {
+		cfg.Knobs.BodyTime = bodyTime
+	}
 	a := &API{cfg: cfg, refused: &tally{}, stop: make(chan struct{})}
 	a.routes = a.table()
 	for _, mount := range cfg.Mounts {
@@ -70,7 +77,7 @@ type connKey struct{}
 
 // Server is an HTTP server for this API.
 func (a *API) Server() *http.Server {
-	return &http.Server{Handler: a, ReadHeaderTimeout: bodyTime, IdleTimeout: 2 * time.Minute, MaxHeaderBytes: mostHead,
+	return &http.Server{Handler: a, ReadHeaderTimeout: a.cfg.Knobs.BodyTime, IdleTimeout: 2 * time.Minute, MaxHeaderBytes: mostHead,
 		ErrorLog: log.New(io.Discard, "", 0), ConnContext: func(ctx context.Context, c net.Conn) context.Context {
 			return context.WithValue(ctx, connKey{}, c)
 		}}
@@ -85,7 +92,7 @@ func Limit(listener net.Listener) net.Listener {
 func (a *API) serve(w http.ResponseWriter, r *http.Request, to target) {
 	ctx, cancel := context.WithTimeout(r.Context(), a.cfg.Timeout)
 	defer cancel()
-	q := &request{w: w, r: r, ctx: ctx, names: to.names}
+	q := &request{w: w, r: r, ctx: ctx, names: to.names, bodyTime: a.cfg.Knobs.BodyTime}
 	q.limitWrite()
 	if err := a.answer(q, to); err != nil {
 		fail := failureOf(err)
@@ -139,13 +146,14 @@ func (t *tally) counts() map[int]uint64 {
 
 // A request is one that is being answered: what it brings, and where the answer goes.
 type request struct {
-	w     http.ResponseWriter
-	r     *http.Request
-	ctx   context.Context
-	role  Role
-	names map[string]string // of the path
-	query url.Values
-	most  int64 // bytes of the body
+	w        http.ResponseWriter
+	r        *http.Request
+	ctx      context.Context
+	role     Role
+	names    map[string]string // of the path
+	query    url.Values
+	most     int64 // bytes of the body
+	bodyTime time.Duration
 }
 
 // isSet are the parameters that may come again.
@@ -204,7 +212,7 @@ func (q *request) bodyUpTo(most int64) ([]byte, error) {
 		return nil, tooLarge("body has", most)
 	}
 	if c := q.conn(); c != nil {
-		c.SetReadDeadline(time.Now().Add(bodyTime))
+		c.SetReadDeadline(time.Now().Add(q.bodyTime))
 		defer c.SetReadDeadline(time.Time{})
 	}
 	text, err := io.ReadAll(q.r.Body)

@@ -13,6 +13,7 @@ import (
 	"net/http/httptest"
 	"reflect"
 	"strings"
+	"sync/atomic"
 	"testing"
 	"time"
 
@@ -294,10 +295,7 @@ func (s *service) status(c net.Conn, want int) {
 }
 
 func TestASlowBodyIsRefused(t *testing.T) {
-	before := bodyTime
-	bodyTime = time.Second
-	defer func() { bodyTime = before }()
-	s := newService(t, nil)
+	s := newService(t, func(with *setup) { with.Knobs.BodyTime = time.Second })
 	c := s.dial()
 	fmt.Fprintf(c, "POST /books/p0/call HTTP/1.1\r\nHost: x\r\nContent-Type: application/json\r\nContent-Length: 100\r\n\r\n{")
 	s.status(c, 408)
@@ -311,7 +309,7 @@ func TestASlowBodyIsRefused(t *testing.T) {
 	for i := 0; i < 2; i++ {
 		fmt.Fprintf(c, "POST /books/p0/call HTTP/1.1\r\nHost: x\r\nContent-Type: application/json\r\nContent-Length: %d\r\n\r\n%s", len(body), body)
 		s.status(c, 200)
-		time.Sleep(2 * bodyTime)
+		time.Sleep(2 * time.Second)
 	}
 }
 
@@ -339,6 +337,17 @@ func TestALookTellsHowNewItIs(t *testing.T) {
 	if row["level"] != "whole" || row["margin"] != 3.0 || row["home_12"] != "16:0" || row["missing"] != "0x0000" || fmt.Sprint(row["missing_fragments"]) != "[]" {
 		t.Error(row)
 	}
+}
+
+func TestALookTellsItsAge(t *testing.T) {
+	age := int64(3000)
+	s := newService(t, func(with *setup) { with.replica.Knobs.Age = func(int64) int64 { return atomic.LoadInt64(&age) } })
+	if answer, text := s.ask("GET", "/books/p0", ""); answer.Header.Get("Lrcmand-Age-Ms") != "3000" || !strings.Contains(text, `"age_ms":3000,`) {
+		t.Error(answer.Header, text)
+	}
+	s.expect("GET", "/health", "", 200, `{"ok":true}`)
+	atomic.StoreInt64(&age, 6000)
+	s.refused("GET", "/health", "", 503, "there is no leader")
 }
 
 func TestALookIsOfUnknownAgeWhereNobodyAnswers(t *testing.T) {

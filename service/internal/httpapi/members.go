@@ -13,6 +13,7 @@ import (
 // group is the requests about this member and the others.
 type group struct {
 	engine  engine.Engine
+	state   *state.State
 	replica *replica.Replica
 	refused *tally
 }
@@ -31,7 +32,7 @@ func (g *group) version(q *request) error {
 		Interface uint32 `json:"interface"`
 		Rules     uint32 `json:"rules"`
 		Go        string `json:"go"`
-	}{1, state.Form, book.Interface(), state.LibraryRules(), runtime.Version()})
+	}{1, state.Form, book.Interface(), g.state.Rules(), runtime.Version()})
 }
 
 func (g *group) status(q *request) error {
@@ -40,7 +41,7 @@ func (g *group) status(q *request) error {
 		Age     int64          `json:"age_ms"`
 		Rules   uint32         `json:"rules"`
 		Refused map[int]uint64 `json:"refused"`
-	}{g.engine.Status(), g.replica.Age(g.replica.Freshness()), state.LibraryRules(), g.refused.counts()})
+	}{g.engine.Status(), g.replica.Age(g.replica.Freshness()), g.state.Rules(), g.refused.counts()})
 }
 
 func (g *group) members(q *request) error {

@@ -32,7 +32,7 @@ const (
 func (a *API) table() []Route {
 	calls := &calls{a.cfg.Replica}
 	looks := &looks{a.cfg.State, a.cfg.Replica}
-	group := &group{a.cfg.Engine, a.cfg.Replica, a.refused}
+	group := &group{a.cfg.Engine, a.cfg.State, a.cfg.Replica, a.refused}
 	rules := &rules{calls, a.cfg.State, a.cfg.Engine}
 	logs := &logs{a.cfg.State, make(chan struct{}, mostStreams), a.stop}
 	return []Route{

@@ -28,7 +28,7 @@ func (u *rules) show(q *request) error {
 		Group   uint32 `json:"group"`
 		Next    uint32 `json:"next,omitempty"`
 		IsSaved bool   `json:"saved"`
-	}{state.LibraryRules(), change.Rules, change.Next, isSaved})
+	}{u.state.Rules(), change.Rules, change.Next, isSaved})
 }
 
 func (u *rules) change(q *request) error {

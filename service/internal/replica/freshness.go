@@ -48,14 +48,15 @@ func (r *Replica) Freshness() Freshness {
 }
 
 // Age is the number of milliseconds since all was applied that was told, rounded up; -1 if this member has heard of nothing yet.
-func (r *Replica) Age(f Freshness) int64 { return sayAge(r, f.upTo) }
-
-// sayAge is the age that a look is told to have; a faulty program, which only tests make, tells another one.
-var sayAge = func(r *Replica, upTo int64) int64 {
-	if upTo == 0 {
-		return -1
+func (r *Replica) Age(f Freshness) int64 {
+	age := int64(-1)
+	if f.upTo != 0 {
+		age = int64(math.Ceil(float64(int64(time.Since(r.begun))-f.upTo) / 1e6))
 	}
-	return int64(math.Ceil(float64(int64(time.Since(r.begun))-upTo) / 1e6))
+	if r.cfg.Knobs.Age != nil {
+		return r.cfg.Knobs.Age(age)
+	}
+	return age
 }
 
 // KeepsUp tells whether this member knows of a leader, and was up to date a short while ago.

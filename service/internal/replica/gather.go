@@ -102,7 +102,7 @@ func (r *Replica) propose(batch []*pending) {
 func (r *Replica) proposeItems(items []*state.Item) ([]state.Answer, error) {
 	ctx, cancel := context.WithTimeout(context.Background(), r.cfg.Timeout*9/10) // so that those who wait hear how it ended
 	defer cancel()
-	payload := state.Encode(items)
+	payload := r.cfg.State.Encode(items)
 	for isUnknown := false; ; {
 		told, err := r.cfg.Engine.Propose(ctx, payload)
 		if err == nil {

@@ -28,6 +28,13 @@ type Config struct {
 	Timeout time.Duration // of an item, and of a question whether this member is up to date
 	Tick    time.Duration // between two ticks by the leader; 0: never
 	Log     *log.Logger
+	Knobs   Knobs
+}
+
+// Knobs are what tests, and a program that is built with the tag faulty, do otherwise. Those that are nil change nothing.
+type Knobs struct {
+	TellEarly func(*state.State, *state.Item) (state.Answer, bool) // may answer before anything is in the log
+	Age       func(int64) int64                                    // is the age that is told, of the one that it is
 }
 
 // A Replica is one member's books behind the log of its group.
@@ -63,9 +70,6 @@ type pending struct {
 
 func (p *pending) take() bool { return atomic.CompareAndSwapInt32(&p.isLeft, 0, 1) }
 
-// tellEarly is nil; a faulty program, which only tests make, answers with it before anything is in the log.
-var tellEarly func(*Replica, *state.Item) (state.Answer, bool)
-
 // Do brings an item into the log and returns its answer. The error is ErrFull or engine.ErrNoLeader if nothing was proposed.
 func (r *Replica) Do(ctx context.Context, item *state.Item) (state.Answer, error) {
 	p := &pending{item: item, done: make(chan struct{})}
@@ -74,8 +78,8 @@ func (r *Replica) Do(ctx context.Context, item *state.Item) (state.Answer, error
 	default:
 		return state.Answer{}, ErrFull
 	}
-	if tellEarly != nil {
-		if answer, ok := tellEarly(r, item); ok {
+	if r.cfg.Knobs.TellEarly != nil {
+		if answer, ok := r.cfg.Knobs.TellEarly(r.cfg.State, item); ok {
 			return answer, nil
 		}
 	}

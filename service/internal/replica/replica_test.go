@@ -42,7 +42,7 @@ func newMember(t *testing.T, change func(*Config)) *member {
 	if change != nil {
 		change(&cfg)
 	}
-	if _, err := e.Propose(context.Background(), state.Encode([]*state.Item{{Action: state.Create, Book: "p0", Nodes: nodes()}})); err != nil {
+	if _, err := e.Propose(context.Background(), books.Encode([]*state.Item{{Action: state.Create, Book: "p0", Nodes: nodes()}})); err != nil {
 		t.Fatal(err)
 	}
 	return &member{t, e, books, New(cfg)}
@@ -304,8 +304,8 @@ func TestASnapshotIsAskedForOnceTheRulesAreToChange(t *testing.T) {
 	if m.engine.Saved != 0 {
 		t.Error("without a change")
 	}
-	item := &state.Item{Action: state.ChangeRules, Rules: state.LibraryRules() + 1}
-	if _, err := m.engine.Propose(context.Background(), state.Encode([]*state.Item{item})); err != nil {
+	item := &state.Item{Action: state.ChangeRules, Rules: m.state.Rules() + 1}
+	if _, err := m.engine.Propose(context.Background(), m.state.Encode([]*state.Item{item})); err != nil {
 		t.Fatal(err)
 	}
 	m.run() // (it asks each second)

@@ -43,8 +43,8 @@ type Position struct{ Made, Opens uint64 }
 const Form = 1
 
 // Encode makes the payload of one entry of the log: the form, the rules of this member's library, and the items.
-func Encode(items []*Item) []byte {
-	b := binary.AppendUvarint([]byte{Form}, uint64(libraryRules()))
+func (s *State) Encode(items []*Item) []byte {
+	b := binary.AppendUvarint([]byte{Form}, uint64(s.ours))
 	b = binary.AppendUvarint(b, uint64(len(items)))
 	for _, item := range items {
 		b = append(b, byte(item.Action))

@@ -1,16 +1,9 @@
 package state
 
-import (
-	"fmt"
+import "fmt"
 
-	"lrcman/service/internal/book"
-)
-
-// libraryRules is the version of the rules of this program's library.
-var libraryRules = book.Rules
-
-// LibraryRules is the version of the rules of this program's library.
-func LibraryRules() uint32 { return libraryRules() }
+// Rules is the version of the rules of this program's library.
+func (s *State) Rules() uint32 { return s.ours }
 
 // A group says by which rules the members go on: no two versions mix in one book.
 type group struct {

@@ -97,8 +97,22 @@ type State struct {
 	write sync.Mutex // held while a snapshot is written, and by a restore
 }
 
+// Knobs are what tests, and a program that is built with the tag faulty, do otherwise. Those that are zero change nothing.
+type Knobs struct {
+	Rules uint32 // what the library's rules are taken for
+}
+
 // New is the state before the first entry.
-func New() *State { return &State{books: map[string]*bookEntry{}, ours: libraryRules()} }
+func New() *State { return NewWith(Knobs{}) }
+
+// NewWith is the state before the first entry of a program with knobs.
+func NewWith(knobs Knobs) *State {
+	ours := knobs.Rules
+	if ours == 0 {
+		ours = book.Rules()
+	}
+	return &State{books: map[string]*bookEntry{}, ours: ours}
+}
 
 // Apply makes the changes of one entry of the log, and returns a []Answer with one for each item. Entries come one after the
 // other, with rising indexes. An error means that this member can't go on: its books would not be those of the others.

@@ -39,7 +39,7 @@ func newPlayer(t *testing.T) *player {
 func (p *player) items(items ...*Item) []Answer {
 	p.t.Helper()
 	p.index++
-	answers, err := p.s.Apply(p.index, Encode(items))
+	answers, err := p.s.Apply(p.index, New().Encode(items))
 	if err != nil {
 		p.t.Fatal(err)
 	}
@@ -329,7 +329,7 @@ func TestANumberOutOfRangeIsRefused(t *testing.T) {
 
 // withRules is an entry of a member whose library has other rules.
 func withRules(rules byte, items ...*Item) []byte {
-	payload := Encode(items)
+	payload := New().Encode(items)
 	payload[1] = rules
 	return payload
 }
@@ -423,7 +423,7 @@ func TestAChangeOfRulesIsTakenBack(t *testing.T) {
 }
 
 func TestAnEntryThatIsDamagedIsRefused(t *testing.T) {
-	whole := Encode([]*Item{call(t, "done 1 3 1"), {Action: Create, Book: "p1", Nodes: twenty}})
+	whole := New().Encode([]*Item{call(t, "done 1 3 1"), {Action: Create, Book: "p1", Nodes: twenty}})
 	for length := range whole {
 		if _, _, err := decode(whole[:length]); err == nil {
 			t.Errorf("%d of %d bytes are taken", length, len(whole))
@@ -446,7 +446,7 @@ func TestItemsAreReadAsTheyWereWritten(t *testing.T) {
 		{Action: Create, Book: "p1", Nodes: []byte("n"), Image: []byte("i")},
 		{Action: Reopen, Book: "p1", Nodes: []byte("m")},
 	}
-	rules, read, err := decode(Encode(items))
+	rules, read, err := decode(New().Encode(items))
 	if err != nil || rules != book.Rules() || !reflect.DeepEqual(read, items) {
 		t.Error(rules, err)
 	}
@@ -483,7 +483,7 @@ func TestEntriesThatASnapshotHasAreNotMadeTwice(t *testing.T) {
 	write, begun := p.s.Freeze(), p.index
 	var payloads [][]byte
 	for i := 0; i < 5; i++ { // (entries that come while it is written)
-		payloads = append(payloads, Encode([]*Item{call(t, "tick"), {Action: Create, Book: fmt.Sprint("late", i), Nodes: twenty}}))
+		payloads = append(payloads, New().Encode([]*Item{call(t, "tick"), {Action: Create, Book: fmt.Sprint("late", i), Nodes: twenty}}))
 		p.index++
 		if _, err := p.s.Apply(p.index, payloads[i]); err != nil {
 			t.Fatal(err)
@@ -678,15 +678,15 @@ func TestALookWaitsForTheNextEntry(t *testing.T) {
 }
 
 func FuzzDecode(f *testing.F) {
-	f.Add(Encode([]*Item{{Action: Call, Book: "p0", Key: "k", Session: 1, Command: book.Command{Kind: book.Tick}, At: &Position{1, 1}}}))
-	f.Add(Encode([]*Item{{Action: Create, Book: "p0", Nodes: twenty}, {Action: Reopen, Book: "p0", Nodes: twenty}}))
+	f.Add(New().Encode([]*Item{{Action: Call, Book: "p0", Key: "k", Session: 1, Command: book.Command{Kind: book.Tick}, At: &Position{1, 1}}}))
+	f.Add(New().Encode([]*Item{{Action: Create, Book: "p0", Nodes: twenty}, {Action: Reopen, Book: "p0", Nodes: twenty}}))
 	f.Add([]byte{Form, 1, 200, 200, 200, 200, 200, 1})
 	f.Fuzz(func(t *testing.T, payload []byte) {
 		rules, items, err := decode(payload)
 		if err != nil || rules != book.Rules() {
 			return
 		}
-		_, again, err := decode(Encode(items))
+		_, again, err := decode(New().Encode(items))
 		if err != nil || !reflect.DeepEqual(items, again) {
 			t.Errorf("%q is read otherwise when it is written again: %v", payload, err)
 		}

@@ -90,7 +90,7 @@ func (n *Node) openLog() (isOld bool, err error) {
 		if isOld, err = n.load(); err != nil {
 			return isOld, err
 		} else if isOld {
-			opened(n.wal)
+			n.opened()
 			return isOld, nil
 		}
 		// Killed in its first moments: it has promised nothing, and without its first entries it would wait for ever.
@@ -107,25 +107,28 @@ func (n *Node) openLog() (isOld bool, err error) {
 	if n.wal, err = wal.Create(n.zap, n.logFolder(), n.metadata()); err != nil {
 		return false, err
 	}
-	opened(n.wal)
+	n.opened()
 	return false, n.syncNames()
 }
 
 // syncNames makes the names of a new log safe from a power cut. Create has synced the name of the log's folder, but neither
 // that of the file in it nor that of this member's folder.
 func (n *Node) syncNames() error {
-	if err := syncFolder(n.logFolder()); err != nil {
+	if err := n.syncFolder(n.logFolder()); err != nil {
 		return err
 	}
-	err := syncFolder(filepath.Dir(n.cfg.Dir))
+	err := n.syncFolder(filepath.Dir(n.cfg.Dir))
 	if errors.Is(err, os.ErrPermission) {
 		return nil // (so this member did not make its folder)
 	}
 	return err
 }
 
-// opened is called with each log that is to be written; a test has it written without syncs.
-var opened = func(*wal.WAL) {}
+func (n *Node) opened() {
+	if n.cfg.Knobs.Opened != nil {
+		n.cfg.Knobs.Opened(n.wal)
+	}
+}
 
 // load begins in the newest snapshot that is whole, and reads the log behind it. It returns false if the log has no hard
 // state: then no vote was given, and nothing acknowledged.
@@ -208,7 +211,7 @@ func (n *Node) setAside(m raftpb.SnapshotMetadata) error {
 			return err
 		}
 	}
-	return syncFolder(n.snapFolder())
+	return n.syncFolder(n.snapFolder())
 }
 
 // readLog reads the log behind a snapshot. A torn record at its end was never told of, and is cut off, once.
@@ -285,8 +288,11 @@ func (n *Node) fileOf(index uint64) string {
 	return filepath.Join(n.snapFolder(), fmt.Sprintf("%016x.snap.db", index))
 }
 
-// syncFolder makes the names in a folder safe from a power cut. (A variable, so that tests can pass it over)
-var syncFolder = func(path string) error {
+// syncFolder makes the names in a folder safe from a power cut.
+func (n *Node) syncFolder(path string) error {
+	if n.cfg.Knobs.SyncFolder != nil {
+		return n.cfg.Knobs.SyncFolder(path)
+	}
 	folder, err := os.Open(path)
 	if err != nil {
 		return err

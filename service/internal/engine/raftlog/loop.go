@@ -182,7 +182,7 @@ func (n *Node) apply(entries []raftpb.Entry) bool {
 // saveReceived saves a snapshot of the leader, whose file of books rafthttp has saved and renamed already.
 func (n *Node) saveReceived(received raftpb.Snapshot) {
 	m := received.Metadata
-	n.must("the folder of snapshots can't be synced", syncFolder(n.snapFolder())) // (rafthttp leaves this out)
+	n.must("the folder of snapshots can't be synced", n.syncFolder(n.snapFolder())) // (rafthttp leaves this out)
 	if err := n.restore(m); err != nil {
 		n.setAside(m) // else it would be kept in place of the next one
 		n.must("the snapshot of the leader can't be read", err)

@@ -39,6 +39,14 @@ type Config struct {
 	Trailing      uint64        // entries that stay behind a snapshot, for members that are a little late
 	Log           *log.Logger
 	Fatal         func(error) // ends the process: after a failed write nobody knows what is on disk
+	Knobs         Knobs
+}
+
+// Knobs are what tests, and a program that is built with the tag faulty, do otherwise. Those that are nil change nothing.
+type Knobs struct {
+	Opened      func(*wal.WAL)          // is called with each log that is to be written
+	SyncFolder  func(path string) error // makes the names in a folder safe from a power cut
+	AskMajority func() error            // returns when all is applied that was told before, as a majority knows
 }
 
 // ticks is the number of raft's ticks in an election timeout.

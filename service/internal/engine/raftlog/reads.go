@@ -61,13 +61,17 @@ func (n *Node) readLoop() {
 		now := n.round
 		n.round = newRound()
 		n.mu.Unlock()
-		now.err = askMajority(n)
+		now.err = n.askMajority()
 		close(now.over)
 	}
 }
 
-// askMajority is a variable, so that tests can pass it over.
-var askMajority = (*Node).readIndex
+func (n *Node) askMajority() error {
+	if n.cfg.Knobs.AskMajority != nil {
+		return n.cfg.Knobs.AskMajority()
+	}
+	return n.readIndex()
+}
 
 // readIndex asks the leader, who asks a majority whether it still is. Raft drops the question without a word where there is
 // no leader, or a new one that has committed nothing yet, or where a message is lost. So it is asked again, with another

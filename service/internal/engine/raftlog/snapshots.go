@@ -111,7 +111,7 @@ func (n *Node) write(index uint64, conf raftpb.ConfState, head head, write func(
 func (n *Node) record(made raftpb.Snapshot) {
 	m := made.Metadata
 	n.must("a snapshot can't be written", n.snaps.SaveSnap(made))
-	n.must("the folder of snapshots can't be synced", syncFolder(n.snapFolder()))
+	n.must("the folder of snapshots can't be synced", n.syncFolder(n.snapFolder()))
 	n.must("the log can't be written", n.wal.SaveSnapshot(walpb.Snapshot{Index: m.Index, Term: m.Term}))
 }
 
@@ -134,7 +134,7 @@ func (n *Node) writeFile(path string, head head, write func(io.Writer) error) er
 	if err := os.Rename(file.Name(), path); err != nil {
 		return err
 	}
-	return syncFolder(n.snapFolder())
+	return n.syncFolder(n.snapFolder())
 }
 
 // purge keeps two snapshots, and the log behind the older one: so that a start has one to fall back to. A file that is being
@@ -200,7 +200,7 @@ func (n *Node) purgeLog(upTo uint64) error {
 		if err := os.Remove(names[i]); err != nil && !errors.Is(err, os.ErrNotExist) {
 			return err // (it is gone where a snapshot of the leader came while one was written)
 		}
-		if err := syncFolder(n.logFolder()); err != nil {
+		if err := n.syncFolder(n.logFolder()); err != nil {
 			return err
 		}
 	}

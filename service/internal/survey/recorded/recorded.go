@@ -124,7 +124,7 @@ func (b *Book) Replay(name string, s *state.State) error {
 		}
 		items = append(items, &state.Item{Action: state.Call, Book: name, Worker: line.Worker, Session: line.Session, Command: command})
 	}
-	told, err := s.Apply(1, state.Encode(items))
+	told, err := s.Apply(1, s.Encode(items))
 	if err != nil {
 		return err
 	}
@@ -159,7 +159,7 @@ func Largest(s *state.State, index uint64, name string) error {
 		call(book.Command{Kind: book.Fail, Node: node})
 	}
 	call(book.Command{Kind: book.Drain, Node: 80})
-	_, err = s.Apply(index, state.Encode(items))
+	_, err = s.Apply(index, s.Encode(items))
 	return err
 }
 

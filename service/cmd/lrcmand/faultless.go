@@ -1,0 +1,5 @@
+//go:build !faulty
+
+package main
+
+func readKnobs() knobs { return knobs{} }
