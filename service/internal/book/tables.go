@@ -147,17 +147,6 @@ func margin(level Level) Cell {
 	return nothing("-")
 }
 
-// rank orders stripes by repair: the least first.
-func rank(level Level) int {
-	switch level.Kind {
-	case AtRisk:
-		return int(level.Margin)
-	case Whole:
-		return 3
-	}
-	return 4
-}
-
 // homeless are the fragments without any home.
 func homeless(code Code, homes *[Fragments]Home) uint16 {
 	set := uint16(0)
@@ -395,7 +384,7 @@ func (b *Book) jobs() ([]job, error) {
 	if err != nil {
 		return nil, err
 	}
-	sort.SliceStable(rows, func(i, j int) bool { return rank(rows[i].Level) < rank(rows[j].Level) })
+	sort.SliceStable(rows, func(i, j int) bool { return rows[i].Level.RankForRepair() < rows[j].Level.RankForRepair() })
 	var jobs []job
 	for _, row := range rows {
 		if row.Level.Kind == Whole && !isDraining {

@@ -14,6 +14,8 @@ import (
 	"strings"
 	"text/tabwriter"
 	"time"
+
+	"lrcman/service/internal/book"
 )
 
 // bookPath is a path below a book.
@@ -127,15 +129,14 @@ func valuesOf(t table) map[string]interface{} {
 	return values
 }
 
-// healthOf is how a book fares, in a word. The page counts work too, and says "moving" where this says "healthy".
+// healthOf is how a book fares, in a word. The table has no work, so it is healthy where the page may say that it is moving.
 func healthOf(values map[string]interface{}) string {
-	for _, is := range []struct{ name, word string }{{"lost", "lost"}, {"unavailable", "unavailable"}, {"at_risk_margin_0", "critical"},
-		{"at_risk_margin_1", "degraded"}, {"at_risk_margin_2", "degraded"}} {
-		if count, _ := values[is.name].(float64); count > 0 {
-			return is.word
-		}
+	number := func(name string) int {
+		count, _ := values[name].(float64)
+		return int(count)
 	}
-	return "healthy"
+	return book.Levels{Lost: number("lost"), Unavailable: number("unavailable"),
+		AtRisk: [3]int{number("at_risk_margin_0"), number("at_risk_margin_1"), number("at_risk_margin_2")}}.Health()
 }
 
 // textOf is a value of JSON as a table prints it.

@@ -278,9 +278,9 @@ func stand(t teller, r *survey.Report) {
 }
 
 func leases(t teller, leases []survey.Lease) {
-	ages, oldest := [3]int{}, 0.0
+	ages, oldest := [book.LeaseTicks]int{}, 0.0
 	for _, lease := range leases {
-		if lease.Ticks < 3 {
+		if lease.Ticks < book.LeaseTicks {
 			ages[lease.Ticks]++
 		}
 		if age := time.Since(lease.Since).Seconds(); age > oldest {

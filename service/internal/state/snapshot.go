@@ -187,16 +187,16 @@ func bytesOf(reply *book.Reply) []byte {
 }
 
 func (e *bookEntry) appendHolders(b []byte) []byte {
-	all := make([]fragment, 0, len(e.holders))
+	all := make([]book.FragmentID, 0, len(e.holders))
 	for key := range e.holders {
 		all = append(all, key)
 	}
 	sort.Slice(all, func(i, j int) bool {
-		return all[i].stripe < all[j].stripe || all[i].stripe == all[j].stripe && all[i].number < all[j].number
+		return all[i].Stripe < all[j].Stripe || all[i].Stripe == all[j].Stripe && all[i].Number < all[j].Number
 	})
 	b = binary.AppendUvarint(b, uint64(len(all)))
 	for _, key := range all {
-		b = append(binary.AppendUvarint(b, uint64(key.stripe)), key.number)
+		b = append(binary.AppendUvarint(b, uint64(key.Stripe)), key.Number)
 		b = binary.AppendUvarint(b, uint64(e.holders[key].epoch))
 		b = appendBytes(b, []byte(e.holders[key].worker))
 	}
@@ -279,7 +279,7 @@ func (c *content) next(r io.Reader) error {
 }
 
 func (r *reader) book() (string, *bookEntry, error) {
-	e := &bookEntry{keys: map[string]cachedAnswer{}, holders: map[fragment]holding{}, grown: make(chan struct{}), removed: make(chan struct{})}
+	e := &bookEntry{keys: map[string]cachedAnswer{}, holders: map[book.FragmentID]holding{}, grown: make(chan struct{}), removed: make(chan struct{})}
 	name := r.text()
 	e.nodes, e.origin = r.bytes(), r.bytes()
 	e.opens, e.index = r.number(), r.number()
@@ -319,7 +319,7 @@ func (r *reader) keys(e *bookEntry) {
 
 func (r *reader) holders(e *bookEntry) {
 	for count := r.number(); count > 0 && !r.isBad; count-- {
-		key := fragment{uint16(r.number()), r.byte()}
+		key := book.FragmentID{Stripe: uint16(r.number()), Number: r.byte()}
 		e.holders[key] = holding{epoch: uint32(r.number()), worker: r.text()}
 	}
 }

@@ -55,12 +55,6 @@ type cachedAnswer struct {
 	answer Answer
 }
 
-// A fragment of a stripe.
-type fragment struct {
-	stripe uint16
-	number uint8
-}
-
 // holding is the lease that a worker was granted.
 type holding struct {
 	worker string
@@ -80,7 +74,7 @@ type bookEntry struct {
 	keys    map[string]cachedAnswer
 	order   []string     // the keys, the oldest first
 	tail    []book.Entry // the last entries before those that the book has
-	holders map[fragment]holding
+	holders map[book.FragmentID]holding
 	grown   chan struct{} // closed at the next entry
 	removed chan struct{} // closed when it is removed
 }
@@ -264,7 +258,7 @@ func (s *State) create(index uint64, e *bookEntry, item *Item) (Answer, error) {
 		return orNone(rejected), err
 	}
 	made := &bookEntry{book: b, nodes: clone(item.Nodes), origin: origin, opens: 1, index: index, keys: map[string]cachedAnswer{},
-		holders: map[fragment]holding{}, grown: make(chan struct{}), removed: make(chan struct{})}
+		holders: map[book.FragmentID]holding{}, grown: make(chan struct{}), removed: make(chan struct{})}
 	answer := Answer{Made: b.Made(), Opens: 1}
 	s.mu.Lock()
 	s.books[item.Book] = made
@@ -375,7 +369,7 @@ func (e *bookEntry) ofAnother(item *Item) (lease book.LeaseRow, holder string, i
 	if command.Kind != book.Done && command.Kind != book.Abandon {
 		return
 	}
-	held, isHeld := e.holders[fragment{command.Stripe, command.Fragment}]
+	held, isHeld := e.holders[book.FragmentID{Stripe: command.Stripe, Number: command.Fragment}]
 	if item.Worker == "" && !isHeld {
 		return
 	}
@@ -393,16 +387,16 @@ func (e *bookEntry) ofAnother(item *Item) (lease book.LeaseRow, holder string, i
 func (e *bookEntry) note(item *Item, reply *book.Reply) error {
 	switch reply.Kind {
 	case book.Granted:
-		key := fragment{reply.Lease.Stripe, reply.Lease.Fragment}
+		key := book.FragmentID{Stripe: reply.Lease.Stripe, Number: reply.Lease.Fragment}
 		delete(e.holders, key)
 		if item.Worker != "" {
 			e.holders[key] = holding{item.Worker, reply.Lease.Epoch}
 		}
 	case book.Ended:
-		delete(e.holders, fragment{item.Command.Stripe, item.Command.Fragment})
+		delete(e.holders, book.FragmentID{Stripe: item.Command.Stripe, Number: item.Command.Fragment})
 	case book.Dropped:
 		for f := uint8(0); f < book.Fragments; f++ {
-			delete(e.holders, fragment{item.Command.Stripe, f})
+			delete(e.holders, book.FragmentID{Stripe: item.Command.Stripe, Number: f})
 		}
 	case book.Ticked:
 		if reply.Ended > 0 {
@@ -425,9 +419,9 @@ func (e *bookEntry) prune() error {
 	if err != nil {
 		return err
 	}
-	live := map[fragment]holding{}
+	live := map[book.FragmentID]holding{}
 	for _, row := range rows {
-		key := fragment{row.Stripe, row.Fragment}
+		key := book.FragmentID{Stripe: row.Stripe, Number: row.Fragment}
 		if held, ok := e.holders[key]; ok && held.epoch == row.Epoch {
 			live[key] = held
 		}
@@ -525,7 +519,7 @@ func (v *View) Holders() ([]Holder, error) {
 	rows, err := v.LeaseRows()
 	holders := []Holder{}
 	for _, row := range rows {
-		if held := v.bookEntry.holders[fragment{row.Stripe, row.Fragment}]; held.epoch == row.Epoch {
+		if held := v.bookEntry.holders[book.FragmentID{Stripe: row.Stripe, Number: row.Fragment}]; held.epoch == row.Epoch {
 			holders = append(holders, Holder{row.Stripe, row.Fragment, row.Epoch, held.worker})
 		}
 	}

@@ -127,9 +127,6 @@ type Lease struct {
 	AtLeast  bool      `json:"at_least"`
 }
 
-// The number of ticks that a lease lives.
-const term = 3
-
 // take looks at a whole book.
 func take(name string, v View) (*Report, error) {
 	at := v.Position()
@@ -181,25 +178,19 @@ func (r *Report) leases(v View) error {
 	if err != nil {
 		return err
 	}
-	workers := map[fragment]string{}
+	workers := map[book.FragmentID]string{}
 	for _, holder := range holders {
-		workers[fragment{holder.Stripe, holder.Fragment}] = holder.Worker
+		workers[book.FragmentID{Stripe: holder.Stripe, Number: holder.Fragment}] = holder.Worker
 	}
 	for _, row := range rows {
 		lease := Lease{Stripe: row.Stripe, Fragment: row.Fragment, Session: row.Holder, Target: row.Target.String(), Epoch: row.Epoch,
-			Worker: workers[fragment{row.Stripe, row.Fragment}]}
-		if left := row.Expiry - r.Clock; left <= term {
-			lease.Ticks = term - left
+			Worker: workers[book.FragmentID{Stripe: row.Stripe, Number: row.Fragment}]}
+		if left := row.Expiry - r.Clock; left <= book.LeaseTicks {
+			lease.Ticks = book.LeaseTicks - left
 		}
 		r.Leases = append(r.Leases, lease)
 	}
 	return nil
-}
-
-// A fragment of a stripe.
-type fragment struct {
-	stripe uint16
-	number uint8
 }
 
 // stripes counts levels and work. Only stripes that miss a fragment are walked, and all while a node is draining.
@@ -208,14 +199,15 @@ func (r *Report) stripes(v View, draining *nodeSet) error {
 	if err != nil {
 		return err
 	}
-	leased := map[fragment]bool{}
+	leased := map[book.FragmentID]bool{}
 	for _, lease := range r.Leases {
-		leased[fragment{lease.Stripe, lease.Fragment}] = true
+		leased[book.FragmentID{Stripe: lease.Stripe, Number: lease.Fragment}] = true
 	}
+	var atRisk []book.StripeRow
 	for _, row := range rows {
 		r.Stripes.add(row)
 		if row.Level.Kind != book.Whole {
-			r.Risks = append(r.Risks, riskOf(row))
+			atRisk = append(atRisk, row)
 		}
 		if row.Missing == 0 && draining.count == 0 {
 			continue
@@ -224,7 +216,10 @@ func (r *Report) stripes(v View, draining *nodeSet) error {
 			return err
 		}
 	}
-	sort.SliceStable(r.Risks, func(i, j int) bool { return rank(r.Risks[i]) < rank(r.Risks[j]) })
+	sort.SliceStable(atRisk, func(i, j int) bool { return atRisk[i].Level.RankForPeople() < atRisk[j].Level.RankForPeople() })
+	for _, row := range atRisk {
+		r.Risks = append(r.Risks, riskOf(row))
+	}
 	return nil
 }
 
@@ -252,18 +247,7 @@ func riskOf(row book.StripeRow) Risk {
 	return risk
 }
 
-// rank orders stripes for people: lost ones first, then unavailable ones, then by margin.
-func rank(risk Risk) int {
-	switch {
-	case risk.Margin != nil:
-		return 2 + int(*risk.Margin)
-	case risk.Level == book.Lost.String():
-		return 0
-	}
-	return 1
-}
-
-func (r *Report) workOf(v View, row book.StripeRow, draining *nodeSet, leased map[fragment]bool) error {
+func (r *Report) workOf(v View, row book.StripeRow, draining *nodeSet, leased map[book.FragmentID]bool) error {
 	homes, err := v.Homes(row.Stripe)
 	if err != nil {
 		return err
@@ -275,15 +259,15 @@ func (r *Report) workOf(v View, row book.StripeRow, draining *nodeSet, leased ma
 		} else if !draining.has(home.Seat.Node) {
 			continue
 		}
-		if err := r.Work.add(v, fragment{row.Stripe, f}, leased); err != nil {
+		if err := r.Work.add(v, book.FragmentID{Stripe: row.Stripe, Number: f}, leased); err != nil {
 			return err
 		}
 	}
 	return nil
 }
 
-func (w *Work) add(v View, key fragment, leased map[fragment]bool) error {
-	plan, err := v.Repair(key.stripe, key.number)
+func (w *Work) add(v View, key book.FragmentID, leased map[book.FragmentID]bool) error {
+	plan, err := v.Repair(key.Stripe, key.Number)
 	if err != nil {
 		return err
 	}
@@ -299,7 +283,7 @@ func (w *Work) add(v View, key fragment, leased map[fragment]bool) error {
 		w.Leased++
 		return nil
 	}
-	reply, err := v.Peek(1, book.Command{Kind: book.Lease, Stripe: key.stripe, Fragment: key.number})
+	reply, err := v.Peek(1, book.Command{Kind: book.Lease, Stripe: key.Stripe, Fragment: key.Number})
 	if err != nil {
 		return err
 	}
@@ -313,16 +297,6 @@ func (w *Work) add(v View, key fragment, leased map[fragment]bool) error {
 	}
 	return nil
 }
-
-// The words of a Health, from worst to best.
-const (
-	Lost        = "lost"
-	Unavailable = "unavailable"
-	Critical    = "critical"
-	Degraded    = "degraded"
-	Moving      = "moving"
-	Healthy     = "healthy"
-)
 
 func (r *Report) health() Health {
 	s := r.Stripes
@@ -343,22 +317,6 @@ func (r *Report) health() Health {
 	if len(why) == 0 {
 		why = append(why, "every stripe is whole and nothing is to be moved")
 	}
-	return Health{r.word(), strings.Join(why, ", ")}
-}
-
-func (r *Report) word() string {
-	s := r.Stripes
-	switch {
-	case s.Lost > 0:
-		return Lost
-	case s.Unavailable > 0:
-		return Unavailable
-	case s.AtRisk[0] > 0:
-		return Critical
-	case s.AtRisk[1]+s.AtRisk[2] > 0:
-		return Degraded
-	case r.Work.All() > 0:
-		return Moving
-	}
-	return Healthy
+	levels := book.Levels{Lost: s.Lost, Unavailable: s.Unavailable, AtRisk: s.AtRisk}
+	return Health{levels.HealthWithWork(r.Work.All()), strings.Join(why, ", ")}
 }

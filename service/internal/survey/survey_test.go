@@ -6,6 +6,7 @@ import (
 	"testing"
 	"time"
 
+	"lrcman/service/internal/book"
 	"lrcman/service/internal/survey"
 	"lrcman/service/internal/survey/recorded"
 )
@@ -71,8 +72,8 @@ func TestAReportCountsWhatTheModelCounts(t *testing.T) {
 }
 
 func TestTheStatesReachEachWordButTwo(t *testing.T) {
-	want := map[string]string{"quiet": survey.Healthy, "rack": survey.Degraded, "upgrade": survey.Degraded, "harm": survey.Lost,
-		"most": survey.Degraded}
+	want := map[string]string{"quiet": book.Healthy, "rack": book.Degraded, "upgrade": book.Degraded, "harm": book.Lost.String(),
+		"most": book.Degraded}
 	for name, word := range want {
 		if r := report(t, newClock().watch(recorded.Books{name: load(t, name)}), name); r.Health.Word != word {
 			t.Errorf("%s is %s (%s), and should be %s", name, r.Health.Word, r.Health.Why, word)

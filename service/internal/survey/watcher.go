@@ -79,7 +79,7 @@ type track struct {
 	counts Counts
 	ring   [buckets]bucket
 	last   []Line
-	grants map[fragment]grant
+	grants map[book.FragmentID]grant
 	report *Report
 	made   time.Time // when the report was
 	cost   time.Duration
@@ -144,7 +144,7 @@ func (w *Watcher) track(name string) *track {
 	defer w.mu.Unlock()
 	t := w.of[name]
 	if t == nil {
-		t = &track{grants: map[fragment]grant{}, counts: Counts{Commands: map[Cause]uint64{}, Refusals: map[uint8]uint64{}}}
+		t = &track{grants: map[book.FragmentID]grant{}, counts: Counts{Commands: map[Cause]uint64{}, Refusals: map[uint8]uint64{}}}
 		w.of[name] = t
 	}
 	return t
@@ -241,7 +241,7 @@ func (t *track) count(entry *book.Entry, now time.Time) {
 		t.counts.Refusals[reply.Refusal]++
 	case reply.Kind == book.Granted:
 		b.granted++
-		t.grants[fragment{reply.Lease.Stripe, reply.Lease.Fragment}] = grant{reply.Lease.Epoch, now, false}
+		t.grants[book.FragmentID{Stripe: reply.Lease.Stripe, Number: reply.Lease.Fragment}] = grant{reply.Lease.Epoch, now, false}
 	case reply.Kind == book.Ticked:
 		t.counts.Expired += uint64(reply.Ended)
 	case reply.Kind == book.Ended && entry.Command.Kind == book.Done:
@@ -284,10 +284,10 @@ func (t *track) look(name string, v View, now func() time.Time) (*Report, error)
 
 // age tells since when leases live, and forgets those that have ended.
 func (t *track) age(leases []Lease, now time.Time) {
-	live := map[fragment]grant{}
+	live := map[book.FragmentID]grant{}
 	for i := range leases {
 		lease := &leases[i]
-		key := fragment{lease.Stripe, lease.Fragment}
+		key := book.FragmentID{Stripe: lease.Stripe, Number: lease.Fragment}
 		known, ok := t.grants[key]
 		if !ok || known.epoch != lease.Epoch {
 			known = grant{lease.Epoch, now, true}
