@@ -3,8 +3,6 @@ package httpapi
 import (
 	"net/http"
 	"strings"
-
-	"lrcman/service/internal/book"
 )
 
 // A Route is what a request of a method at a path does. Its pattern is its label in metrics, too.
@@ -71,18 +69,6 @@ func (a *API) Routes() []Route { return append([]Route(nil), a.routes...) }
 
 // Other is the label of requests at paths of no route.
 const Other = "other"
-
-// Labels are those that the requests of a route have in metrics.
-func (t *Route) Labels() []string {
-	if !strings.Contains(t.Pattern, "{view}") {
-		return []string{t.Pattern}
-	}
-	labels := []string{Other}
-	for _, view := range book.Views {
-		labels = append(labels, t.label(map[string]string{"view": view}))
-	}
-	return labels
-}
 
 // label is that of a request. Names are not in it, since there may be many, but for that of a table.
 func (t *Route) label(names map[string]string) string {
