@@ -7,7 +7,6 @@ import (
 	"io"
 	"log"
 	"net/http"
-	"os/exec"
 	"regexp"
 	"strings"
 	"testing"
@@ -15,6 +14,7 @@ import (
 
 	"lrcman/service/internal/ctl"
 	"lrcman/service/internal/survey/recorded"
+	"lrcman/service/internal/testbrowser"
 	"lrcman/service/internal/testports"
 )
 
@@ -131,30 +131,25 @@ func TestAMemberShowsWhatItDoes(t *testing.T) {
 
 // browse compares what a browser shows of the member's book with the model.
 func browse(t *testing.T, address string, b *recorded.Book) {
-	program, err := exec.LookPath("chromium")
-	if err != nil {
+	if !testbrowser.Is() {
 		t.Log("there is no chromium here, so the page is not looked at")
 		return
 	}
-	ctx, cancel := context.WithTimeout(context.Background(), 90*time.Second)
-	defer cancel()
-	dom, err := exec.CommandContext(ctx, program, "--headless", "--no-sandbox", "--disable-gpu", "--disable-dev-shm-usage",
-		"--user-data-dir="+t.TempDir(), "--virtual-time-budget=4000", "--dump-dom", "http://"+address+"/?book=p0").Output()
-	if err != nil {
-		t.Fatal(err)
-	}
+	tab := testbrowser.Visit(t, "http://"+address+"/?book=p0", 1280, 900)
+	tab.UntilContact("document", "live")
+	dom := tab.DOM()
 	facts := map[string]int{"commands": len(b.Lines)}
 	if recorded.HasRules() {
 		facts["stripes"], facts["margin 2"], facts["margin 1"] = b.Value("stripes"), b.Value("at_risk_margin_2"), b.Value("at_risk_margin_1")
 		facts["leased"], facts["open"] = b.Standing("leased"), b.Standing("open")
 	}
 	for name, value := range facts {
-		found := regexp.MustCompile(`data-fact="` + name + `"[^>]*><dt>[^<]*</dt><dd>([^<]*)</dd>`).FindSubmatch(dom)
-		if found == nil || string(found[1]) != fmt.Sprint(value) {
+		found := regexp.MustCompile(`data-fact="` + name + `"[^>]*><dt>[^<]*</dt><dd>([^<]*)</dd>`).FindStringSubmatch(dom)
+		if found == nil || found[1] != fmt.Sprint(value) {
 			t.Errorf("the page shows %q for %s, and the model has %d", found, name, value)
 		}
 	}
-	if strings.Count(string(dom), "<script>") != 1 {
+	if strings.Count(dom, "<script>") != 1 {
 		t.Error("a name became markup")
 	}
 }

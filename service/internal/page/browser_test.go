@@ -6,60 +6,62 @@ import (
 	"net/http"
 	"net/http/httptest"
 	"os"
-	"os/exec"
 	"path/filepath"
 	"regexp"
 	"strconv"
 	"strings"
 	"sync/atomic"
 	"testing"
-	"time"
 
 	"lrcman/service/internal/engine"
 	"lrcman/service/internal/survey/recorded"
+	"lrcman/service/internal/testbrowser"
 )
 
-// browser runs Chromium without a window and returns what it printed. The test is left out where there is none.
-func browser(t *testing.T, arguments ...string) string {
-	t.Helper()
-	program, err := exec.LookPath("chromium")
-	if err != nil {
-		t.Skip("there is no chromium here, so the page is not looked at")
-	}
-	ctx, cancel := context.WithTimeout(context.Background(), 90*time.Second)
-	defer cancel()
-	arguments = append([]string{"--headless", "--no-sandbox", "--disable-gpu", "--disable-dev-shm-usage", "--hide-scrollbars",
-		"--user-data-dir=" + t.TempDir(), "--virtual-time-budget=4000"}, arguments...)
-	command := exec.CommandContext(ctx, program, arguments...)
-	said := &strings.Builder{}
-	command.Stderr = said
-	output, err := command.Output()
-	if err != nil {
-		t.Fatalf("chromium: %v: %s", err, said)
-	}
-	if strings.Contains(said.String(), "Content Security Policy") || strings.Contains(said.String(), "Uncaught") {
-		t.Errorf("chromium says %s", said)
-	}
-	return string(output)
+// A store serves a page, and counts how often its events were asked for.
+type store struct {
+	*httptest.Server
+	asked int32
 }
 
-// serveOnce sends one event in each stream, so that a browser comes to rest.
-func serveOnce(t *testing.T, p *Page, token string) *httptest.Server {
+// serveOnce ends each stream after one event, so that a page asks again.
+func serveOnce(t *testing.T, p *Page, token string) *store {
 	t.Helper()
-	mux := http.NewServeMux()
-	mux.HandleFunc("/", p.Page)
-	mux.HandleFunc("/events", func(w http.ResponseWriter, r *http.Request) {
+	return serveEvents(t, p, func(w http.ResponseWriter, r *http.Request, _ int32) {
 		if token != "" && r.Header.Get("Authorization") != "Bearer "+token {
 			refuse(w, http.StatusUnauthorized, "no token")
 			return
 		}
-		ctx, cancel := context.WithCancel(r.Context())
-		cancel() // (the first event is sent all the same)
-		p.Events(w, r.WithContext(ctx))
+		sendOne(p, w, r)
 	})
-	server := httptest.NewServer(mux)
-	t.Cleanup(server.Close)
-	return server
+}
+
+func sendOne(p *Page, w http.ResponseWriter, r *http.Request) {
+	ctx, cancel := context.WithCancel(r.Context())
+	cancel() // (the first event is sent all the same)
+	p.Events(w, r.WithContext(ctx))
+}
+
+// serveEvents serves a page with other events than its own, which know how often they were asked for.
+func serveEvents(t *testing.T, p *Page, events func(w http.ResponseWriter, r *http.Request, asked int32)) *store {
+	t.Helper()
+	s := &store{}
+	mux := http.NewServeMux()
+	mux.HandleFunc("/", p.Page)
+	mux.HandleFunc("/events", func(w http.ResponseWriter, r *http.Request) { events(w, r, atomic.AddInt32(&s.asked, 1)) })
+	s.Server = httptest.NewServer(mux)
+	t.Cleanup(s.Close)
+	return s
+}
+
+// look opens a path in a browser, and returns the page when it asks for its events once more than so many times: it has drawn what
+// it was answered each time.
+func (s *store) look(t *testing.T, path string, times int32) string {
+	t.Helper()
+	tab := testbrowser.Visit(t, s.URL+path, 1280, 900)
+	defer tab.End()
+	tab.Until(fmt.Sprintf("drawn %d answers", times), func() bool { return atomic.LoadInt32(&s.asked) > times })
+	return tab.DOM()
 }
 
 // factsOf are the numbers that a page shows.
@@ -73,10 +75,9 @@ func factsOf(dom string) map[string]string {
 
 func TestTheBrowserShowsTheNumbersOfTheModel(t *testing.T) {
 	books := load(t, states...)
-	server := serveOnce(t, pageOf(books), "")
+	p := pageOf(books)
 	for name, b := range books {
-		dom := browser(t, "--dump-dom", server.URL+"/?book="+name)
-		checkDOM(t, name, dom, b)
+		checkDOM(t, name, serveOnce(t, p, "").look(t, "/?book="+name, 2), b)
 	}
 }
 
@@ -174,7 +175,7 @@ func TestSeveralNodesOfADomainStandSideBySide(t *testing.T) {
 		for i := range one.Nodes {
 			one.Nodes[i].Upgrade %= upgrades
 		}
-		dom := browser(t, "--window-size=1280,900", "--dump-dom", serveOnce(t, pageOf(recorded.Books{"p0": one}), "").URL+"/")
+		dom := serveOnce(t, pageOf(recorded.Books{"p0": one}), "").look(t, "/", 2)
 		checkPicture(t, name, dom, len(one.Nodes))
 		if !strings.Contains(dom, "Columns are fault domains") {
 			t.Errorf("%s: the nodes stand in no grid", name)
@@ -186,8 +187,7 @@ func TestNamesFromOutsideStayText(t *testing.T) {
 	const evil = `<img src=x onerror=alert(1)><script>document.title="owned"</script>`
 	one := load(t, "rack")["rack"]
 	one.Leases[0].Worker = evil
-	server := serveOnce(t, pageOf(recorded.Books{evil: one}), "")
-	dom := browser(t, "--dump-dom", server.URL+"/")
+	dom := serveOnce(t, pageOf(recorded.Books{evil: one}), "").look(t, "/", 2)
 	if strings.Contains(dom, "<img") || strings.Count(dom, "<script>") != 1 || strings.Contains(dom, "<title>owned") {
 		t.Error("a name became markup")
 	}
@@ -199,17 +199,13 @@ func TestNamesFromOutsideStayText(t *testing.T) {
 func TestAPageWithoutContactOrLeaderSaysSo(t *testing.T) {
 	p := pageOf(load(t, "quiet"))
 	p.Status = func() engine.Status { return engine.Status{ID: 2, Term: 8} }
-	once := serveOnce(t, p, "").Config.Handler
-	var asked int32
-	server := httptest.NewServer(http.HandlerFunc(func(w http.ResponseWriter, r *http.Request) {
-		if r.URL.Path == "/events" && atomic.AddInt32(&asked, 1) > 1 {
+	dom := serveEvents(t, p, func(w http.ResponseWriter, r *http.Request, asked int32) {
+		if asked > 1 {
 			refuse(w, http.StatusServiceUnavailable, "this member has <ended>")
 			return
 		}
-		once.ServeHTTP(w, r)
-	}))
-	defer server.Close()
-	dom := browser(t, "--dump-dom", server.URL+"/")
+		sendOne(p, w, r)
+	}).look(t, "/", 2)
 	if !strings.Contains(dom, `<p id="word" aria-live="polite">No leader</p>`) {
 		t.Error("the page does not say that there is no leader")
 	}
@@ -219,7 +215,7 @@ func TestAPageWithoutContactOrLeaderSaysSo(t *testing.T) {
 }
 
 func TestThePageShowsAnotherBookIfItsBookIsUnknown(t *testing.T) {
-	dom := browser(t, "--dump-dom", serveOnce(t, pageOf(load(t, "quiet")), "").URL+"/?book=p9")
+	dom := serveOnce(t, pageOf(load(t, "quiet")), "").look(t, "/?book=p9", 3) // (the first answer is that there is none)
 	if factsOf(dom)["stripes"] != "60" {
 		t.Error("nothing is shown")
 	}
@@ -227,7 +223,9 @@ func TestThePageShowsAnotherBookIfItsBookIsUnknown(t *testing.T) {
 
 func TestThePageAsksForAToken(t *testing.T) {
 	server := serveOnce(t, pageOf(load(t, "rack")), "abcdefghijklmnop")
-	dom := browser(t, "--dump-dom", server.URL+"/")
+	tab := testbrowser.Visit(t, server.URL+"/", 1280, 900)
+	tab.UntilContact("document", "not live")
+	dom := tab.DOM()
 	if !strings.Contains(dom, `<section id="ask" class="wide" aria-labelledby="ask-head">`) || strings.Contains(dom, `id="node-`) {
 		t.Error("the page does not ask for a token, or shows a store without one")
 	}
@@ -240,8 +238,7 @@ func servePhone(t *testing.T, p *Page) *httptest.Server {
 	mux.HandleFunc("/events", p.Events)
 	mux.HandleFunc("/phone/", func(w http.ResponseWriter, r *http.Request) {
 		fmt.Fprintf(w, `<!doctype html><meta name="color-scheme" content="light dark"><body style="margin:0">`+
-			`<iframe src="/?book=%s" style="width:390px;height:2600px;border:0"></iframe><p></p><script>setTimeout(() => document.querySelector("p").`+
-			`textContent = "as wide as " + document.querySelector("iframe").contentDocument.documentElement.scrollWidth, 2500)</script>`,
+			`<iframe src="/?book=%s" style="width:390px;height:2600px;border:0"></iframe>`,
 			strings.TrimPrefix(r.URL.Path, "/phone/"))
 	})
 	mux.HandleFunc("/", func(w http.ResponseWriter, r *http.Request) {
@@ -251,6 +248,9 @@ func servePhone(t *testing.T, p *Page) *httptest.Server {
 	t.Cleanup(server.Close)
 	return server
 }
+
+// phone is the page in the frame.
+const phone = `document.querySelector("iframe").contentDocument`
 
 // framed lets a page stand in a frame of the same server.
 type framed struct{ http.ResponseWriter }
@@ -264,9 +264,12 @@ func (f framed) Write(text []byte) (int, error) {
 func TestThePageIsNoWiderThanAPhone(t *testing.T) {
 	server := servePhone(t, pageOf(load(t, states...)))
 	for _, name := range states {
-		if dom := browser(t, "--window-size=800,2700", "--dump-dom", server.URL+"/phone/"+name); !strings.Contains(dom, "<p>as wide as 390</p>") {
-			t.Errorf("%s: %s", name, dom[len(dom)-200:])
+		tab := testbrowser.Visit(t, server.URL+"/phone/"+name, 800, 2700)
+		tab.UntilContact(phone, "live")
+		if wide, _ := tab.Text(phone + ".documentElement.scrollWidth"); wide != "390" {
+			t.Errorf("%s: the page is %s wide", name, wide)
 		}
+		tab.End()
 	}
 }
 
@@ -288,23 +291,29 @@ func TestPictures(t *testing.T) {
 	server := servePhone(t, p)
 	dark := "--blink-settings=preferredColorScheme=0"
 	for _, picture := range []struct {
-		name, path, size string
-		more             []string
+		name, path    string
+		width, height int
+		flags         []string
 	}{
-		{"quiet", "/?book=quiet", "1280,1100", nil},
-		{"rack", "/?book=rack", "1280,1500", nil},
-		{"upgrade", "/?book=upgrade", "1280,1500", nil},
-		{"harm", "/?book=harm", "1280,1200", nil},
-		{"most", "/?book=most", "1800,1500", nil},
-		{"phone", "/phone/rack", "500,2600", nil},
-		{"dark", "/?book=rack", "1280,1500", []string{dark}},
-		{"phone-dark", "/phone/upgrade", "500,2600", []string{dark}},
+		{"quiet", "/?book=quiet", 1280, 1100, nil},
+		{"rack", "/?book=rack", 1280, 1500, nil},
+		{"upgrade", "/?book=upgrade", 1280, 1500, nil},
+		{"harm", "/?book=harm", 1280, 1200, nil},
+		{"most", "/?book=most", 1800, 1500, nil},
+		{"phone", "/phone/rack", 500, 2600, nil},
+		{"dark", "/?book=rack", 1280, 1500, []string{dark}},
+		{"phone-dark", "/phone/upgrade", 500, 2600, []string{dark}},
 	} {
 		if only != "" && only != picture.name {
 			continue
 		}
-		arguments := append(picture.more, "--window-size="+picture.size, "--screenshot="+filepath.Join(folder, picture.name+".png"),
-			server.URL+picture.path)
-		browser(t, arguments...)
+		tab := testbrowser.Visit(t, server.URL+picture.path, picture.width, picture.height, picture.flags...)
+		document := "document"
+		if strings.HasPrefix(picture.path, "/phone/") {
+			document = phone
+		}
+		tab.UntilContact(document, "live")
+		tab.Picture(filepath.Join(folder, picture.name+".png"))
+		tab.End()
 	}
 }
