@@ -91,7 +91,8 @@ func pipe(t testing.TB) (from, to *os.File) {
 	return from, to
 }
 
-// End ends Chromium. The test fails if the page has had a fault: an error that nothing caught, or something that its policy forbids.
+// End ends Chromium. The test fails if the page has had a fault: an error that nothing caught, or something that its policy
+// forbids.
 func (tab *Tab) End() {
 	tab.t.Helper()
 	if tab.command.ProcessState != nil {
@@ -207,7 +208,8 @@ func (tab *Tab) note(event message) {
 	}
 }
 
-// Text is the value of an expression in the page, as text, and whether it has one: it throws where a part that it names is not there.
+// Text is the value of an expression in the page, as text, and whether it has one: it throws where a part that it names is not
+// there.
 func (tab *Tab) Text(expression string) (string, bool) {
 	tab.t.Helper()
 	var answer struct {
