@@ -16,7 +16,7 @@ use Rattle.lrc_field.proofs.MemberLemmas.{fragments_below}
 use Rattle.lrc_field.proofs.DeterminedLemmas.{size_of-within}
 use Rattle.lrc_field.proofs.DecodableLemmas.{except, except-self, rejoined}
 use Rattle.lrc_field.proofs.RisingLemmas.{both_first, size_of-one_more}
-use Rattle.lrc_field.proofs.RecipeLemmas.{read_none}
+use Rattle.lrc_field.proofs.ReadLemmas.{read_none}
 use Rattle.lrc_field.proofs.SomeRecipeLemmas.{made, determines_by}
 
 -- ---- what is read

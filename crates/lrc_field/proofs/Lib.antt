@@ -16,6 +16,7 @@ pub mod TooManyLemmas
 pub mod WhichLemmas
 pub mod CountLemmas
 pub mod RisingLemmas
+pub mod ReadLemmas
 pub mod RecipeLemmas
 pub mod SomeRecipeLemmas
 pub mod FirstRecipeLemmas

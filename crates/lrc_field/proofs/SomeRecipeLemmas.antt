@@ -12,7 +12,8 @@ use Rattle.lrc_field.specs.Recipes.{read_by, readable, IsRecipe}
 use Rattle.lrc_field.specs.Weights.{Weights, coefficient_by, local_weights, weights_for}
 use Rattle.lrc_field.proofs.FieldLemmas.{zero_times}
 use Rattle.lrc_field.proofs.MemberLemmas.{fragments_below}
-use Rattle.lrc_field.proofs.RecipeLemmas.{AreOf, Made, others_of, read_none, local_recipe, near_recipe, no_recipe}
+use Rattle.lrc_field.proofs.ReadLemmas.{AreOf, read_none}
+use Rattle.lrc_field.proofs.RecipeLemmas.{Made, others_of, local_recipe, near_recipe, no_recipe}
 
 abbrev pub HasRecipe : Code → FragmentSet → Fragment → Type 0
 HasRecipe code missing f = (c : ℕ → ℕ) × IsRecipe code missing f.value c
