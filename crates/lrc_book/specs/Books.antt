@@ -64,8 +64,8 @@ IsStep b e = (outcome_in b.nodes (world_of b) e.session e.command).0 ≡ e.reply
 abbrev pub state_after_entry : BookView → Entry → State
 state_after_entry b e = (next_world b.nodes (world_of b) e).state
 
--- What the entry changes of the published view: the levels of the stripes and the loads of the nodes for which the two tests
--- hold, and no others. Each of these is that of the state after the entry.
+-- What the entry can change of the published view: at most the levels of the stripes and the loads of the nodes for which the
+-- two tests hold. All others are the same in the state after the entry.
 pub record ChangesTheseAlone (b : BookView) (e : Entry) : Type 0 where
   pub levels : (s : StripeNo) → IsFalse (can_change_level b.nodes (state_of b) s e.command)
       → level_shown b.nodes (state_after_entry b e) s ≡ level_shown b.nodes (state_of b) s

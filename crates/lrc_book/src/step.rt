@@ -22,7 +22,7 @@ use std::alloc::{AllocError, Global};
 
 impl Book {
     /// Returns the entry that a call would add. Nothing changes. `can_change_level` and `can_change_load` tell which levels and
-    /// loads the entry would change; all others stay, and `commit` makes these what they are in the state after it.
+    /// loads the entry can change; all others stay, and after `commit` the looks return those of the state after the entry.
     ///
     /// # Errors
     ///

@@ -13,7 +13,7 @@ use Rattle.lrc_rules.specs.declared.command.Command.{Command}
 use Rattle.lrc_rules.specs.declared.command.Command.TheVariants.{Place6, Down, Up, Upgrade, Upgraded}
 use Rattle.lrc_rules.specs.declared.reply.Reply.TheVariants.{Placed6, Changed}
 use Rattle.lrc_rules.specs.declared.entry.Entry.{Entry}
-use Rattle.lrc_rules.specs.States.{State, opening, level}
+use Rattle.lrc_rules.specs.States.{State, opening, is_down, online_at, level}
 use Rattle.lrc_rules.specs.Placement.{chosen, placed}
 use Rattle.lrc_rules.specs.Steps.{place_outcome, node_outcome, would_lose, upgrade_outcome, upgraded_outcome}
 use Rattle.lrc_rules.specs.Changes.{held_at}
@@ -85,6 +85,20 @@ pub loses-is : (outage : Outage) → loses_seat (four_away outage) (state_with o
 unfolding loses_seat
 loses-is Stop = refl
 loses-is Lose = refl
+
+-- ---- the node
+
+pub off-is : (outage : Outage) → online_at ten_nodes (four_away outage) (node 0) ≡ false
+off-is Stop = refl
+off-is Lose = refl
+
+pub stopped-up : (outage : Outage) → outage ≡ Stop → is_down (four_away outage) (node 0) ≡ false
+stopped-up Stop same = refl
+stopped-up Lose same = absurd (cc)
+
+pub lost-down : (outage : Outage) → outage ≡ Lose → is_down (four_away outage) (node 0) ≡ true
+lost-down Stop same = absurd (cc)
+lost-down Lose same = refl
 
 -- ---- the forecast
 

@@ -16,7 +16,7 @@ ghost use Rattle.lrc_rules.specs.declared.command.Command.TheVariants.{Down, Fai
 ghost use Rattle.lrc_rules.specs.declared.reply.Reply.TheVariants.{Changed, Refused};
 ghost use Rattle.lrc_rules.specs.declared.refusal.Refusal.{Refusal};
 ghost use Rattle.lrc_rules.specs.declared.entry.Entry.{Entry};
-ghost use Rattle.lrc_rules.specs.States.{State, seats_of, has_number, mode_of, is_down, homeless, missing};
+ghost use Rattle.lrc_rules.specs.States.{State, seats_of, has_number, mode_of, is_down, online_at, homeless, missing};
 ghost use Rattle.lrc_rules.specs.Steps.{step};
 ghost use Rattle.lrc_rules.specs.Histories.{IsLegal, state_after};
 ghost use Rattle.lrc_rules.specs.Goodness.{AreSeated};
@@ -97,12 +97,14 @@ pub fn no_return_makes_a_safe_outage_harmful()
 {}
 
 /// What a return can bring back counts as harm, and not for nothing. After some legal history a stripe is unavailable, and an outage of
-/// one node is not safe. Then one return shows why: without the outage the stripe is recoverable after it, and with the outage it
-/// is not. This holds where a node stops whose domain is upgrading, and where a node is lost that is down.
+/// one node that is offline already is not safe. Then one return shows why: without the outage the stripe is recoverable after it,
+/// and with the outage it is not. This holds of a node that stops and is not down, and of one that is lost and is down.
 pub fn a_return_shows_the_harm()
     ensures { (outage : Outage) → (nodes : List NodeInfo) × (history : List Entry) × (n : NodeNo) × (call : Call) × (s : StripeNo)
         × AreNodes nodes × IsLegal nodes history × IsTrue (is_return call.1)
         × IsUnrecoverable nodes (state_after nodes history) s
+        × IsFalse (online_at nodes (state_after nodes history) n)
+        × (outage ≡ Stop → IsFalse (is_down (state_after nodes history) n)) × (outage ≡ Lose → IsTrue (is_down (state_after nodes history) n))
         × IsFalse (harms_none (forecast nodes (state_after nodes history) outage (n ∷ [])))
         × IsUnrecoverable nodes (state_after_calls nodes history (state_with outage (state_after nodes history) (n ∷ [])) (call ∷ [])) s
         × ¬ (IsUnrecoverable nodes (state_after_calls nodes history (state_after nodes history) (call ∷ [])) s) }
