@@ -2,7 +2,8 @@
 use Rattle.std.proofs.Common.{◌≡◌, ℕ, arith, Bool, true, false, not, ◌&&◌, nat_lt, eqb, List, filter, Option, Some, None, IsFalse, refl, sym, ap, ap₂, ◌∙◌, inl, inr}
 use Rattle.std.specs.List.{Contains}
 use Rattle.std.specs.Option.{option_eq}
-use Rattle.std.proofs.lemmas.Bool.{cases_Bool, eq-eqb, and_parts, ltb-true, ltb-false}
+use Rattle.std.proofs.lemmas.Bool.{cases_Bool, eq-eqb, and_parts, ltb-true, ltb-false, lt-ltb, false_from_ne_true}
+use Rattle.std.proofs.lemmas.List.Elements.{All-contains}
 use Rattle.std.proofs.lemmas.List.MinMax.{IsStrictWeakOrder-by_number}
 use Rattle.lrc_code.specs.declared.numbers.StripeNo.{StripeNo}
 use Rattle.lrc_code.specs.declared.numbers.NodeNo.{NodeNo}
@@ -10,7 +11,7 @@ use Rattle.lrc_code.specs.declared.numbers.UpgradeNo.{UpgradeNo}
 use Rattle.lrc_code.specs.Numbers.{same_upgrade}
 use Rattle.lrc_code.specs.Losses.{is_recoverable}
 use Rattle.lrc_code.specs.Order.{HasNoTies, least}
-use Rattle.lrc_code.proofs.OrderLemmas.{least-listed, least-only}
+use Rattle.lrc_code.proofs.OrderLemmas.{least-listed, least-none_before, least-only}
 use Rattle.lrc_topology.specs.declared.NodeInfo.{NodeInfo}
 use Rattle.lrc_topology.specs.Nodes.{has_domain}
 use Rattle.lrc_terms.specs.Levels.{homes_of, missing_in}
@@ -111,6 +112,24 @@ module _ (nodes : List NodeInfo) (st : State) (u : UpgradeNo) where
             let lost : upgrades.is_lost_to (stored_of nodes st spare) u r ≡ true = lost-as none spare r ∙ rw (there, h.1) refl in
             let both : true ≡ false = sym lost ∙ told.first r (ltb-true r.value s.value hit) in cc)
       ]
+
+  -- and the one that is told is the least
+  pub first-lost : st.upgrading ≡ None → (spare : ℕ) (s : StripeNo) → would_lose nodes st u ≡ Some s → IsFirstLostTo (stored_of nodes st spare) u s
+  unfolding would_lose
+  first-lost none spare s told =
+      let before : StripeNo → StripeNo → Bool = λ r t. nat_lt r.value t.value in
+      let listed = filter (is_lost_to nodes st u) st.stripes in
+      let h = filter-member (is_lost_to nodes st u) st.stripes s (least-listed before s listed told) in
+      let there : has_stripe st s ≡ true = list_any-member (λ (t : StripeNo). eqb s.value t.value) st.stripes s h.0 (eq-eqb s.value s.value refl) in
+      let none_before = least-none_before before (IsStrictWeakOrder-by_number (λ (t : StripeNo). t.value)) s listed told in
+      record {
+        lost = lost-as none spare s ∙ rw (there, h.1) refl;
+        first = λ r lower. false_from_ne_true (upgrades.is_lost_to (stored_of nodes st spare) u r) (λ lost.
+            let parts = and_parts (has_stripe st r) (is_lost_to nodes st u r) (sym (lost-as none spare r) ∙ lost) in
+            let among = member-filter (is_lost_to nodes st u) st.stripes r (stripe-there st r parts.0) parts.1 in
+            let after = All-contains (λ (y : StripeNo). nat_lt y.value s.value ≡ false) listed r none_before among in
+            let both : true ≡ false = sym (lt-ltb r.value s.value lower) ∙ after in cc);
+      }
 
   -- where there is none, none is
   pub lost-none : st.upgrading ≡ None → (spare : ℕ) → ((s : StripeNo) → IsFalse (upgrades.is_lost_to (stored_of nodes st spare) u s))

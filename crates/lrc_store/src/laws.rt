@@ -11,7 +11,7 @@ ghost use Rattle.lrc_stripes.specs.Upgrades.{is_lost_to, is_short, IsFirstLostTo
 ghost use Rattle.lrc_store.specs.Stores.{stored_of};
 
 /// An upgrade makes no stripe unrecoverable that is not short. So the lowest short stripe that an upgrade would lose is the
-/// lowest of all that it would lose, and where there is one, the rules refuse the upgrade for it. The seats of the state are
+/// lowest of all that it would lose, and is exactly the one for which the rules refuse the upgrade. The seats of the state are
 /// in order, and no domain is upgrading.
 pub fn only_short_stripes_are_lost_to_upgrades()
     ensures short { (nodes : List NodeInfo) (st : State) (spare : ℕ) (u : UpgradeNo) (s : StripeNo)
@@ -22,5 +22,5 @@ pub fn only_short_stripes_are_lost_to_upgrades()
         → IsFirstShortLostTo (stored_of nodes st spare) u s ↔ IsFirstLostTo (stored_of nodes st spare) u s }
     ensures refused { (nodes : List NodeInfo) (st : State) (spare : ℕ) (u : UpgradeNo) (s : StripeNo)
         → AreSeated nodes st → st.upgrading ≡ None
-        → IsFirstShortLostTo (stored_of nodes st spare) u s → would_lose nodes st u ≡ Some s }
+        → IsFirstShortLostTo (stored_of nodes st spare) u s ↔ (would_lose nodes st u ≡ Some s) }
 {}

@@ -1,4 +1,4 @@
-use Rattle.lrc_store.proofs.UpgradeLemmas.{lost-first}
+use Rattle.lrc_store.proofs.UpgradeLemmas.{lost-first, first-lost}
 use Rattle.lrc_store.proofs.ShortUpgradeLemmas.{lost-short, short-first, first-short}
 use Rattle.lrc_store.proofs.laws.only_short_stripes_are_lost_to_upgrades.Goals as goal
 
@@ -9,4 +9,7 @@ pub returns-clause-first : goal.returns-clause-first
 returns-clause-first c = λ nodes st spare u s seated none. (short-first nodes st spare seated u none s, first-short nodes st spare seated u none s)
 
 pub returns-clause-refused : goal.returns-clause-refused
-returns-clause-refused c = λ nodes st spare u s seated none is. lost-first nodes st u none spare s (short-first nodes st spare seated u none s is)
+returns-clause-refused c = λ nodes st spare u s seated none. (
+  λ is. lost-first nodes st u none spare s (short-first nodes st spare seated u none s is),
+  λ told. first-short nodes st spare seated u none s (first-lost nodes st u none spare s told),
+)
