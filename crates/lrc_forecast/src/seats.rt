@@ -1,10 +1,9 @@
 //! The seats that go away where some nodes stop or are lost.
 
-ghost use Rattle.std.specs.Prelude.{◌≡◌, length, map, get_or, None};
+ghost use Rattle.std.specs.Prelude.{◌≡◌, length, get_or, None};
 ghost use Rattle.std.specs.List.{list_any};
 ghost use Rattle.lrc_code.specs.declared.codes.Code.TheVariants.{Wide};
 ghost use Rattle.lrc_code.specs.Codes.{fragments};
-ghost use Rattle.lrc_terms.specs.Levels.{Homes};
 ghost use Rattle.lrc_book.specs.Books.{state_of};
 ghost use Rattle.lrc_forecast.specs.Forecasts.{lease_target};
 ghost use Rattle.lrc_forecast.specs.Hits.{would_go, is_on_going, has_going_seat};
@@ -16,21 +15,6 @@ use lrc_code::{FRAGMENTS, Fragment, NodeNo, StripeNo};
 
 /// Whether a home or the target of a live lease of the stripe is on a node of the set that goes away by the outage.
 pub(crate) fn loses_seat(
-    book: &Book,
-    outage: Outage,
-    stripe: StripeNo,
-    homes: &[Option<Seat>; FRAGMENTS],
-    nodes: &NodeSet,
-) -> bool
-    requires long { length nodes.now ≡ 65536 }
-    ensures { (of : Homes) → homes.now ≡ map (λ f. of f.value) (fragments Wide)
-        → result ≡ list_any (has_going_seat nodes.now outage book.now.nodes (state_of book.now) stripe of) (fragments Wide) }
-{
-    is_any_going(book, outage, stripe, homes, nodes)
-}
-
-/// Whether the home or the target of a fragment is on such a node.
-fn is_any_going(
     book: &Book,
     outage: Outage,
     stripe: StripeNo,

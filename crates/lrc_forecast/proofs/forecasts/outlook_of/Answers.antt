@@ -1,4 +1,5 @@
-use Rattle.std.proofs.Common.{rules, ◌≡◌, ℕ, List, length, Some, map, refl, sym, ap, ◌∙◌}
+use Rattle.std.proofs.Common.{rules, ◌≡◌, ℕ, Bool, List, length, get_or, Option, Some, None, map, refl, sym, ap, ◌∙◌}
+use Rattle.std.specs.List.{list_any}
 use Rattle.std.proofs.lemmas.Option.{same_Some}
 use Rattle.lrc_code.specs.declared.codes.Code.{Code}
 use Rattle.lrc_code.specs.declared.codes.Code.TheVariants.{Wide}
@@ -6,6 +7,7 @@ use Rattle.lrc_code.specs.declared.losses.LossMask.{LossMask}
 use Rattle.lrc_code.specs.declared.numbers.Fragment.{Fragment}
 use Rattle.lrc_code.specs.Codes.{fragments}
 use Rattle.lrc_code.specs.Losses.{bits_set, bits_of}
+use Rattle.lrc_topology.specs.declared.seat.Seat.{Seat}
 use Rattle.lrc_terms.specs.declared.lease.Lease.{Lease}
 use Rattle.lrc_terms.specs.Levels.{homes_of, homeless_in}
 use Rattle.lrc_rules.specs.States.{code_of, code_shown, homes_shown, homeless, level, level_shown, missing, missing_shown}
@@ -14,6 +16,7 @@ use Rattle.lrc_book.proofs.StripeLemmas.{code-told, level-told, mask-told, homes
 use Rattle.lrc_forecast.specs.declared.outlook.Outage.{Outage}
 use Rattle.lrc_forecast.specs.Forecasts.{state_with, ended_leases}
 use Rattle.lrc_forecast.proofs.LeaseLemmas.{ended-stopped, ended-count}
+use Rattle.lrc_forecast.specs.Hits.{has_going_seat}
 use Rattle.lrc_forecast.proofs.AwayLemmas.{loses-as}
 use Rattle.lrc_forecast.proofs.OutlookLemmas.{stopped-set, lost-set, outlook-told}
 use Rattle.lrc_forecast.proofs.forecasts.outlook_of.Goals as goal
@@ -63,6 +66,8 @@ returns c = λ ns are.
           w.leases_ended-is ∙ w.leases_on-leases_ended.ensures (homes_of st.homes s) homes ∙ ended-count st ns c.requires.seated.one_home c.requires.seated.one_lease s c.args.hit_nodes.now are
           ∙ ap (λ (o : Outage). length (ended_leases st (state_with o st ns) s)) (sym w.in-Lose-outage.is)
     ] in
+    let going : List (Option Seat) → Bool =
+    λ of. list_any (has_going_seat c.args.hit_nodes.now c.args.outage nodes st s (λ f. get_or of f None)) (fragments Wide) in
     outlook-told nodes st ns s c.args.hit_nodes.now are code own hit now bare hits misses unhomed c.requires.seated.one_home c.args.outage c.joined-missing.result.bits
     c.match-outage.homeless.bits c.without.result.bits c.match-outage-2.leases_ended c.loses_seat.result c.unwrap.result c.level_by.result first c.joined-missing.ensures bared c.level_by.ensures
-    c.without.ensures ended (c.loses_seat.ensures (homes_of st.homes s) homes ∙ loses-as nodes st c.requires.seated ns c.args.hit_nodes.now are c.args.outage s)
+    c.without.ensures ended (c.loses_seat.ensures ∙ ap going homes ∙ loses-as nodes st c.requires.seated ns c.args.hit_nodes.now are c.args.outage s)
