@@ -226,12 +226,7 @@ func (q *request) bodyUpTo(most int64) ([]byte, error) {
 }
 
 func (q *request) fail(fail *failure) {
-	if fail.allow != "" {
-		q.w.Header().Set("Allow", fail.allow)
-	}
-	if fail.Status == http.StatusUnauthorized {
-		q.w.Header().Set("WWW-Authenticate", "Bearer")
-	}
+	fail.setHeaders(q.w.Header())
 	q.say(fail.Status, fail)
 }
 

@@ -549,7 +549,7 @@ func TestNobodyKnowsIsToldOrTriedAgain(t *testing.T) {
 	lost(2, false, engine.ErrOutcomeUnknown)
 	s.expect("POST", "/books/p0/call", `{"command":"tick","key":"b"}`, 200, `{"n":2,"opens":1,"reply":"ticked 2 0","kind":"ticked","clock":2,"ended":0}`)
 	lost(1, true, engine.ErrOutcomeUnknown) // without a key its caller is told that nobody knows
-	s.expect("POST", "/books/p0/call", `{"command":"tick"}`, 504, `{"status":504,"error":"nobody knows whether it was made","maybe":true}`)
+	s.expect("POST", "/books/p0/call", `{"command":"tick"}`, 504, `{"status":504,"code":"outcome_unknown","error":"nobody knows whether it was made","maybe":true}`)
 	s.expect("POST", "/books/p0/call", `{"command":"tick"}`, 200, `{"n":4,"opens":1,"reply":"ticked 4 0","kind":"ticked","clock":4,"ended":0}`)
 	lost(2, false, engine.ErrNoLeader) // nothing was made: it is tried again in any case
 	s.expect("POST", "/books/p0/call", `{"command":"tick"}`, 200, `{"n":5,"opens":1,"reply":"ticked 5 0","kind":"ticked","clock":5,"ended":0}`)

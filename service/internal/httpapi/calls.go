@@ -17,20 +17,24 @@ func (c *calls) answerOf(q *request, item *state.Item) (state.Answer, error) {
 	if err != nil || answer.Rejected == 0 {
 		return answer, err
 	}
-	return answer, &failure{Status: statuses[answer.Rejected], Words: answer.Words}
+	how := rejections[answer.Rejected]
+	return answer, &failure{Status: how.status, Code: how.code, Words: answer.Words}
 }
 
-// statuses are those of rejections.
-var statuses = map[state.Rejection]int{
-	state.NoBook:       http.StatusNotFound,
-	state.BookExists:   http.StatusConflict,
-	state.TooManyBooks: http.StatusConflict,
-	state.BadText:      http.StatusUnprocessableEntity,
-	state.KeyReused:    http.StatusConflict,
-	state.Moved:        http.StatusConflict,
-	state.OutOfRange:   http.StatusBadRequest,
-	state.OtherRules:   http.StatusServiceUnavailable,
-	state.NotChanged:   http.StatusConflict,
+// rejections are told with these statuses and codes.
+var rejections = map[state.Rejection]struct {
+	status int
+	code   string
+}{
+	state.NoBook:       {http.StatusNotFound, "no_book"},
+	state.BookExists:   {http.StatusConflict, "book_exists"},
+	state.TooManyBooks: {http.StatusConflict, "too_many_books"},
+	state.BadText:      {http.StatusUnprocessableEntity, "bad_text"},
+	state.KeyReused:    {http.StatusConflict, "key_reused"},
+	state.Moved:        {http.StatusConflict, "moved"},
+	state.OutOfRange:   {http.StatusBadRequest, "out_of_range"},
+	state.OtherRules:   {http.StatusServiceUnavailable, "other_rules"},
+	state.NotChanged:   {http.StatusConflict, "not_changed"},
 }
 
 // A bookResponse is the answer to one who made a book, or began it over other nodes.

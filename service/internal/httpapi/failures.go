@@ -14,6 +14,7 @@ import (
 // A failure is an answer other than 200.
 type failure struct {
 	Status int     `json:"status"`
+	Code   string  `json:"code"` // tells failures of one status apart; where it is "", failureOf gives it that of its status
 	Words  string  `json:"error"`
 	Maybe  bool    `json:"maybe,omitempty"`  // it may have been made
 	Before *uint64 `json:"before,omitempty"` // of a log: the first place that this member has
@@ -23,12 +24,53 @@ type failure struct {
 // Error is the line of words.
 func (f *failure) Error() string { return f.Words }
 
+// setHeaders sets the headers that go with a failure.
+func (f *failure) setHeaders(header http.Header) {
+	if f.allow != "" {
+		header.Set("Allow", f.allow)
+	}
+	switch f.Status {
+	case http.StatusUnauthorized:
+		header.Set("WWW-Authenticate", "Bearer")
+	case http.StatusTooManyRequests, http.StatusServiceUnavailable:
+		header.Set("Retry-After", "1")
+	}
+}
+
+// codesOf are the codes of failures that have none of their own, by status.
+var codesOf = map[int]string{
+	http.StatusBadRequest:            "bad_request",
+	http.StatusUnauthorized:          "unauthorized",
+	http.StatusForbidden:             "forbidden",
+	http.StatusNotFound:              "not_found",
+	http.StatusMethodNotAllowed:      "method_not_allowed",
+	http.StatusRequestTimeout:        "too_slow",
+	http.StatusConflict:              "refused_change",
+	http.StatusGone:                  "forgotten_entries",
+	http.StatusLengthRequired:        "length_required",
+	http.StatusRequestEntityTooLarge: "too_large",
+	http.StatusUnsupportedMediaType:  "wrong_type",
+	http.StatusUnprocessableEntity:   "bad_text",
+	http.StatusTooManyRequests:       "too_many_requests",
+	http.StatusInternalServerError:   "fault",
+	http.StatusServiceUnavailable:    "busy",
+	http.StatusGatewayTimeout:        "outcome_unknown",
+}
+
 func bad(form string, values ...interface{}) error {
 	return &failure{Status: http.StatusBadRequest, Words: fmt.Sprintf(form, values...)}
 }
 
-// failureOf is the answer to an error.
+// failureOf is the answer to an error, with its code.
 func failureOf(err error) *failure {
+	fail := *failureWithoutCode(err)
+	if fail.Code == "" {
+		fail.Code = codesOf[fail.Status]
+	}
+	return &fail
+}
+
+func failureWithoutCode(err error) *failure {
 	var fail *failure
 	var forgotten *state.Forgotten
 	var refused engine.Refused
@@ -37,16 +79,32 @@ func failureOf(err error) *failure {
 		return fail
 	case errors.As(err, &forgotten):
 		return &failure{Status: http.StatusGone, Words: err.Error(), Before: &forgotten.First}
-	case errors.Is(err, state.ErrNoBook), errors.Is(err, book.ErrNotFound):
-		return &failure{Status: http.StatusNotFound, Words: err.Error()}
-	case errors.Is(err, book.ErrUndetermined):
-		return &failure{Status: http.StatusConflict, Words: err.Error()}
 	case errors.As(err, &refused):
 		return &failure{Status: http.StatusConflict, Words: err.Error()}
-	case errors.Is(err, replica.ErrFull):
-		return &failure{Status: http.StatusTooManyRequests, Words: err.Error()}
 	case errors.Is(err, engine.ErrOutcomeUnknown):
 		return &failure{Status: http.StatusGatewayTimeout, Words: err.Error(), Maybe: true}
 	}
-	return &failure{Status: http.StatusServiceUnavailable, Words: err.Error()}
+	for _, it := range failuresOf {
+		if errors.Is(err, it.err) {
+			return &failure{Status: it.status, Code: it.code, Words: err.Error()}
+		}
+	}
+	return &failure{Status: http.StatusInternalServerError, Words: err.Error()} // (of the library: memory was refused, say)
+}
+
+// failuresOf are the answers to errors by name.
+var failuresOf = []struct {
+	err    error
+	status int
+	code   string
+}{
+	{state.ErrNoBook, http.StatusNotFound, "no_book"},
+	{book.ErrNotFound, http.StatusNotFound, "not_found"},
+	{book.ErrUndetermined, http.StatusConflict, "undetermined"},
+	{replica.ErrFull, http.StatusTooManyRequests, "too_many_requests"},
+	{engine.ErrNoLeader, http.StatusServiceUnavailable, "no_leader"},
+	{engine.ErrNotMoved, http.StatusServiceUnavailable, "busy"},
+	{engine.ErrBusy, http.StatusServiceUnavailable, "busy"},
+	{engine.ErrEnded, http.StatusServiceUnavailable, "ended"},
+	{engine.ErrRemoved, http.StatusServiceUnavailable, "ended"},
 }
