@@ -29,6 +29,8 @@ type Member struct {
 	Client string `json:"client"` // HOST:PORT for clients
 	// It keeps the log and answers as the others, and neither votes nor leads.
 	Learner bool `json:"learner,omitempty"`
+	// The number of its folder: the others hear no other one under its ID. 0 until it has told them.
+	Folder uint64 `json:"folder,omitempty"`
 }
 
 // A Status is how one member sees the group.

@@ -288,11 +288,15 @@ func (n *Node) fileOf(index uint64) string {
 	return filepath.Join(n.snapFolder(), fmt.Sprintf("%016x.snap.db", index))
 }
 
-// syncFolder makes the names in a folder safe from a power cut.
 func (n *Node) syncFolder(path string) error {
 	if n.cfg.Knobs.SyncFolder != nil {
 		return n.cfg.Knobs.SyncFolder(path)
 	}
+	return syncFolder(path)
+}
+
+// syncFolder makes the names in a folder safe from a power cut.
+func syncFolder(path string) error {
 	folder, err := os.Open(path)
 	if err != nil {
 		return err
