@@ -54,10 +54,25 @@ type memberStatus struct {
 }
 
 type member struct {
-	ID     uint64 `json:"id"`
-	Peer   string `json:"peer"`
-	Client string `json:"client"`
-	Leader bool   `json:"leader"`
+	ID      uint64 `json:"id"`
+	Peer    string `json:"peer"`
+	Client  string `json:"client"`
+	Leader  bool   `json:"leader"`
+	Learner bool   `json:"learner"`
+	Promote bool   `json:"promote"`
+}
+
+// does is what a member does in its group.
+func (m *member) does() string {
+	switch {
+	case m.Leader:
+		return "leads"
+	case m.Learner && m.Promote:
+		return "learns, and votes once it has all"
+	case m.Learner:
+		return "learns"
+	}
+	return "votes"
 }
 
 type bookRow struct {
@@ -190,13 +205,13 @@ func (s *session) members([]string) error {
 	if err := json.Unmarshal(text, &list); err != nil {
 		return fmt.Errorf("the answer to /members is not what lrcmand answers: %w", err)
 	}
-	rows := [][]string{{"MEMBER", "FOR MEMBERS", "FOR CLIENTS", "LEADER"}}
+	rows := [][]string{{"MEMBER", "FOR MEMBERS", "FOR CLIENTS", "DOES"}}
 	for _, m := range list.Members {
 		peer := m.Peer
 		if peer == "" {
 			peer = "-"
 		}
-		rows = append(rows, []string{fmt.Sprint(m.ID), peer, m.Client, textOf(m.Leader)})
+		rows = append(rows, []string{fmt.Sprint(m.ID), peer, m.Client, m.does()})
 	}
 	return s.print(rows)
 }

@@ -47,9 +47,11 @@ func (s *service) ServeHTTP(w http.ResponseWriter, r *http.Request) {
 		return
 	}
 	texts := map[string]string{
-		"/status":  `{"id":2,"leader":1,"term":7,"commit":90,"applied":89,"snapshot":0,"first":1,"members":[{"id":1},{"id":2},{"id":3}],"age_ms":12,"rules":1,"refused":{}}`,
-		"/books":   `{"index":89,"age_ms":1,"books":[{"name":"p0","n":17,"opens":1}]}`,
-		"/members": `{"members":[{"id":1,"peer":"h1:7422","client":"h1:7421","leader":true},{"id":2,"peer":"","client":"h2:7421","leader":false}]}`,
+		"/status": `{"id":2,"leader":1,"term":7,"commit":90,"applied":89,"snapshot":0,"first":1,"members":[{"id":1},{"id":2},{"id":3}],"age_ms":12,"rules":1,"refused":{}}`,
+		"/books":  `{"index":89,"age_ms":1,"books":[{"name":"p0","n":17,"opens":1}]}`,
+		"/members": `{"members":[{"id":1,"peer":"h1:7422","client":"h1:7421","leader":true},{"id":2,"peer":"","client":"h2:7421","leader":false},` +
+			`{"id":3,"peer":"h3:7422","client":"h3:7421","learner":true,"leader":false},` +
+			`{"id":4,"peer":"h4:7422","client":"h4:7421","learner":true,"promote":true,"leader":false}]}`,
 		"/books/p0/show/status": `{"n":17,"opens":1,"index":89,"age_ms":1,"rows":[{"name":"stripes","value":60},{"name":"whole","value":59},` +
 			`{"name":"at_risk_margin_2","value":1},{"name":"lost","value":0},{"name":"upgrading","value":"none"},{"name":"entries","value":17}]}`,
 		"/books/p0/workers": `{"n":17,"opens":1,"index":89,"age_ms":1,"rows":[{"stripe":1,"fragment":3,"epoch":2,"worker":"w7"}]}`,
@@ -146,10 +148,11 @@ func TestEachCommandHasItsStatusAndWords(t *testing.T) {
 		{"status", 0, []string{"member 2 of 3 at ", "leader 1, term 7, applied 89 of 90", "p0    degraded  60       59     1"}, ""},
 		{"books", 0, []string{"BOOK  ENTRIES  OPENED\np0    17       1\n"}, ""},
 		{"books -o json", 0, []string{`{"index":89,"age_ms":1,"books":[{"name":"p0","n":17,"opens":1}]}` + "\n"}, ""},
-		{"lead 1", 0, []string{"1       h1:7422      h1:7421      yes\n"}, ""},
+		{"lead 1", 0, []string{"1       h1:7422      h1:7421      leads\n"}, ""},
 		{"lead x", 2, nil, `"x" is no number of a member`},
 		{"lead 9", 1, nil, "there is no member 9 (409 from http://"},
-		{"members", 0, []string{"1       h1:7422      h1:7421      yes\n2       -            h2:7421      no\n"}, ""},
+		{"members", 0, []string{"1       h1:7422      h1:7421      leads\n2       -            h2:7421      votes\n" +
+			"3       h3:7422      h3:7421      learns\n4       h4:7422      h4:7421      learns, and votes once it has all\n"}, ""},
 		{"table p0 leases", 0, []string{"stripe  fragment  holder  target  epoch  expiry\n1       3         2       17:0    1      3\n"}, ""},
 		{"table p0 workers", 0, []string{"1       3         2      w7\n"}, ""},
 		{"table p0 lease", 1, nil, "there is no such book (404 from http://"},

@@ -4,6 +4,7 @@ package engine
 import (
 	"context"
 	"errors"
+	"fmt"
 	"io"
 )
 
@@ -31,7 +32,12 @@ type Member struct {
 	Learner bool `json:"learner,omitempty"`
 	// The number of its folder: the others hear no other one under its ID. 0 until it has told them.
 	Folder uint64 `json:"folder,omitempty"`
+	// The leader makes this learner vote once it has what the leader has.
+	Promote bool `json:"promote,omitempty"`
 }
+
+// IsAt tells whether a member is where another one is.
+func (m Member) IsAt(other Member) bool { return m.Peer == other.Peer && m.Client == other.Client }
 
 // A Status is how one member sees the group.
 type Status struct {
@@ -68,6 +74,14 @@ type Refused string
 // Error is the reason.
 func (r Refused) Error() string { return string(r) }
 
+// A NotLeader says that nothing was proposed, since the leader alone is asked for this.
+type NotLeader struct{ Leader Member }
+
+// Error names the leader.
+func (e *NotLeader) Error() string {
+	return fmt.Sprintf("member %d leads, and is to be asked for this: %s", e.Leader.ID, e.Leader.Client)
+}
+
 // An Engine is a log, kept alike by the members of a group, that drives a machine.
 type Engine interface {
 	// Propose brings a payload into the log, and returns what Apply told on this member.
@@ -76,10 +90,13 @@ type Engine interface {
 	Barrier(ctx context.Context) error
 	// Status is how this member sees the group now.
 	Status() Status
-	// Add adds a member, and Remove removes one. To add one that only learns, as one that does not, makes it vote. The error is
-	// a Refused if the change is not lawful.
-	Add(ctx context.Context, member Member) error
-	Remove(ctx context.Context, id uint64) error
+	// Add adds a member as one that learns. The leader makes it vote once it has what the leader has, unless it is a Learner.
+	// To add one that only learns, as one that does not, makes it vote if it has as much. Remove removes a member. isAgain says
+	// that it was so before. The error is a Refused if the change is not lawful, or if the members after it would have no
+	// majority that was heard of, or if the one that is to vote lacks entries: isForced makes it in both cases. It is a
+	// NotLeader at any member but the leader.
+	Add(ctx context.Context, member Member, isForced bool) (isAgain bool, err error)
+	Remove(ctx context.Context, id uint64, isForced bool) (isAgain bool, err error)
 	// Lead makes a member the leader, and returns once it is, as far as this one knows. It may take long if that member is
 	// behind, and it fails if the context ends before. The error is a Refused if there is no such member.
 	Lead(ctx context.Context, id uint64) error

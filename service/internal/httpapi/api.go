@@ -177,7 +177,7 @@ func readQuery(r *http.Request, taken string) (url.Values, error) {
 			return nil, bad("the parameter %q comes twice", name)
 		}
 	}
-	for _, name := range []string{"now", "follow"} {
+	for _, name := range []string{"now", "follow", "force"} {
 		if value := query.Get(name); value != "" && value != "0" && value != "1" {
 			return nil, bad("the parameter %q has to be 0 or 1", name)
 		}

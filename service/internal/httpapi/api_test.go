@@ -240,6 +240,10 @@ func TestBadRequestsAreRefusedByName(t *testing.T) {
 		{"PUT", "/members/2", `{"peer":"h:1","client":"h:2","learner":1}`, 400, `the field "learner" has to be a bool and not a number`},
 		{"PUT", "/members/9", `{"peer":"h:1","client":"h:2"}`, 409, "there is a member 9 already"},
 		{"DELETE", "/members/2", "", 504, "nobody knows"},
+		{"PUT", "/members/8", `{"peer":"h:1","client":"h:2"}`, 409, "there is a member 8 already"},
+		{"DELETE", "/members/8", "", 409, "the group would stand still"},
+		{"DELETE", "/members/8?force=0", "", 409, "the group would stand still"},
+		{"DELETE", "/members/8?force=yes", "", 400, `the parameter "force" has to be 0 or 1`},
 		{"POST", "/snapshot", "", 503, "a snapshot is being written"},
 	} {
 		s.refused(it.method, it.path, it.body, it.status, it.words)
@@ -617,12 +621,22 @@ func TestVersionAndMembers(t *testing.T) {
 	s.expect("PUT", "/members/3", `{"peer":"j:1","client":"j:2","learner":true}`, 200,
 		`{"members":[{"id":1,"peer":"h:1","client":"h:2","leader":true},{"id":2,"peer":"i:1","client":"i:2","leader":false},`+
 			`{"id":3,"peer":"j:1","client":"j:2","learner":true,"leader":false}]}`)
+	again := `{"id":2,"peer":"i:1","client":"i:2","leader":false},{"id":3,"peer":"j:1","client":"j:2","learner":true,"leader":false}],"again":true}`
+	for _, it := range [][]string{{"PUT", "/members/2", `{"peer":"i:1","client":"i:2"}`}, {"DELETE", "/members/7", ""}, {"DELETE", "/members/8?force=1", ""}} {
+		s.expect(it[0], it[1], it[2], 200, `{"members":[{"id":1,"peer":"h:1","client":"h:2","leader":true},`+again)
+	}
+	s.engine.Change(func(e *testengine.Local) { e.Leader = 3 })
+	s.expect("PUT", "/members/4", `{"peer":"k:1","client":"k:2"}`, 503,
+		`{"status":503,"code":"not_leader","error":"member 3 leads, and is to be asked for this: j:2","leader":"j:2"}`)
+	s.engine.Change(func(e *testengine.Local) { e.Leader = 1 })
+	s.expect("PUT", "/members/8?force=1", `{"peer":"k:1","client":"k:2"}`, 200, `{"members":[{"id":1,"peer":"h:1","client":"h:2","leader":true},`+
+		strings.Replace(again, `],"again":true}`, `,{"id":8,"peer":"k:1","client":"k:2","leader":false}]}`, 1))
 	_, text := s.ask("GET", "/version", "")
 	if !strings.HasPrefix(text, fmt.Sprintf(`{"service":1,"form":1,"interface":%d,"rules":%d,"go":"go1`, book.Interface(), book.Rules())) {
 		t.Error(text)
 	}
 	_, text = s.ask("GET", "/status", "")
-	if !strings.Contains(text, `"id":1,"leader":1,`) || !strings.Contains(text, `"refused":{}`) {
+	if !strings.Contains(text, `"id":1,"leader":1,`) || !strings.Contains(text, `"refused":{"503":1}`) {
 		t.Error(text)
 	}
 }

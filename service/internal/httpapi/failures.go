@@ -18,6 +18,7 @@ type failure struct {
 	Words  string  `json:"error"`
 	Maybe  bool    `json:"maybe,omitempty"`  // it may have been made
 	Before *uint64 `json:"before,omitempty"` // of a log: the first place that this member has
+	Leader string  `json:"leader,omitempty"` // HOST:PORT of the leader for clients, where it alone is asked for this
 	allow  string
 }
 
@@ -74,6 +75,7 @@ func failureWithoutCode(err error) *failure {
 	var fail *failure
 	var forgotten *state.Forgotten
 	var refused engine.Refused
+	var notLeader *engine.NotLeader
 	switch {
 	case errors.As(err, &fail):
 		return fail
@@ -81,6 +83,8 @@ func failureWithoutCode(err error) *failure {
 		return &failure{Status: http.StatusGone, Words: err.Error(), Before: &forgotten.First}
 	case errors.As(err, &refused):
 		return &failure{Status: http.StatusConflict, Words: err.Error()}
+	case errors.As(err, &notLeader):
+		return &failure{Status: http.StatusServiceUnavailable, Code: "not_leader", Words: err.Error(), Leader: notLeader.Leader.Client}
 	case errors.Is(err, engine.ErrOutcomeUnknown):
 		return &failure{Status: http.StatusGatewayTimeout, Words: err.Error(), Maybe: true}
 	}

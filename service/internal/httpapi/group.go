@@ -44,7 +44,10 @@ func (g *group) status(q *request) error {
 	}{g.engine.Status(), g.replica.Age(g.replica.Freshness()), g.state.Rules(), g.refused.counts()})
 }
 
-func (g *group) members(q *request) error {
+func (g *group) members(q *request) error { return g.sayMembers(q, false) }
+
+// sayMembers answers with the members; isAgain says that they were changed so before.
+func (g *group) sayMembers(q *request, isAgain bool) error {
 	type row struct {
 		engine.Member
 		Leader bool `json:"leader"`
@@ -54,7 +57,10 @@ func (g *group) members(q *request) error {
 	for _, member := range status.Members {
 		rows = append(rows, row{member, member.ID == status.Leader})
 	}
-	return q.say(http.StatusOK, map[string][]row{"members": rows})
+	return q.say(http.StatusOK, struct {
+		Members []row `json:"members"`
+		IsAgain bool  `json:"again,omitempty"`
+	}{rows, isAgain})
 }
 
 func memberID(q *request) (uint64, error) {
@@ -81,10 +87,11 @@ func (g *group) addMember(q *request) error {
 	if err != nil {
 		return err
 	}
-	if err := g.engine.Add(q.ctx, member); err != nil {
+	isAgain, err := g.engine.Add(q.ctx, member, q.query.Get("force") == "1")
+	if err != nil {
 		return err
 	}
-	return g.members(q)
+	return g.sayMembers(q, isAgain)
 }
 
 func (g *group) removeMember(q *request) error {
@@ -92,10 +99,11 @@ func (g *group) removeMember(q *request) error {
 	if err != nil {
 		return err
 	}
-	if err := g.engine.Remove(q.ctx, id); err != nil {
+	isAgain, err := g.engine.Remove(q.ctx, id, q.query.Get("force") == "1")
+	if err != nil {
 		return err
 	}
-	return g.members(q)
+	return g.sayMembers(q, isAgain)
 }
 
 // lead answers once the member of the path leads.

@@ -3,6 +3,7 @@ package testengine
 
 import (
 	"context"
+	"fmt"
 	"sync"
 
 	"lrcman/service/internal/engine"
@@ -67,15 +68,23 @@ func (l *Local) Status() engine.Status {
 	return engine.Status{ID: 1, Leader: l.Leader, Applied: l.index, Members: l.Members}
 }
 
-// Add takes any member but 9.
-func (l *Local) Add(_ context.Context, member engine.Member) error {
-	if member.ID == 9 {
-		return engine.Refused("there is a member 9 already")
-	}
+// Add takes any member but 9, as long as this one leads, and 8 only by force.
+func (l *Local) Add(_ context.Context, member engine.Member, isForced bool) (isAgain bool, err error) {
 	l.mu.Lock()
 	defer l.mu.Unlock()
-	l.Members = append(l.Members, member)
-	return nil
+	for _, other := range l.Members {
+		if other.ID == l.Leader && l.Leader != 1 {
+			return false, &engine.NotLeader{Leader: other}
+		}
+		isAgain = isAgain || other.ID == member.ID
+	}
+	if member.ID == 9 || member.ID == 8 && !isForced {
+		return false, engine.Refused(fmt.Sprintf("there is a member %d already", member.ID))
+	}
+	if !isAgain {
+		l.Members = append(l.Members, member)
+	}
+	return isAgain, nil
 }
 
 // Lead moves nothing.
@@ -86,8 +95,16 @@ func (l *Local) Lead(_ context.Context, id uint64) error {
 	return nil
 }
 
-// Remove does not tell what became of it.
-func (l *Local) Remove(context.Context, uint64) error { return engine.ErrOutcomeUnknown }
+// Remove does not tell what became of it, but of 7, which was removed before, and of 8, which is removed only by force.
+func (l *Local) Remove(_ context.Context, id uint64, isForced bool) (isAgain bool, err error) {
+	switch {
+	case id == 7 || id == 8 && isForced:
+		return true, nil
+	case id == 8:
+		return false, engine.Refused("the group would stand still")
+	}
+	return false, engine.ErrOutcomeUnknown
+}
 
 // Snapshot is busy.
 func (l *Local) Snapshot() error {

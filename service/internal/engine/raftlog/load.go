@@ -253,6 +253,7 @@ func (n *Node) unreadable(from uint64, err error) error {
 type head struct {
 	Members []engine.Member `json:"members"`
 	Removed []uint64        `json:"removed"`
+	Changes uint64          `json:"changes"`
 }
 
 // restore begins in the file of a snapshot.
@@ -277,6 +278,7 @@ func (n *Node) restore(m raftpb.SnapshotMetadata) error {
 	for _, id := range head.Removed {
 		n.removed[id] = true
 	}
+	n.changes = head.Changes
 	n.mu.Unlock()
 	n.conf = m.ConfState
 	atomic.StoreUint64(&n.saved, m.Index)

@@ -108,6 +108,7 @@ func (n *Node) head() head {
 	head := head{Members: n.sorted()}
 	n.mu.Lock()
 	defer n.mu.Unlock()
+	head.Changes = n.changes
 	for id := range n.removed {
 		head.Removed = append(head.Removed, id)
 	}
@@ -115,39 +116,106 @@ func (n *Node) head() head {
 	return head
 }
 
-// judge says why a change of members is not lawful, or "" after it was made. It is asked where a change is applied, and not
-// where it is proposed: so all members judge alike.
-func (n *Node) judge(change *raftpb.ConfChange, member engine.Member) string {
+// A wish is what the entry of a change of members says of the member.
+type wish struct {
+	engine.Member
+	// The change is made only if so many were made before it: none is made twice, and each is made to the members that it was
+	// judged by. 0 for those of the first members, which follow one another.
+	After uint64 `json:"after,omitempty"`
+}
+
+// errOvertaken says that a change was not made, as another one came before.
+var errOvertaken = errors.New("the members were changed meanwhile")
+
+// judge makes a change of members, or says why it is not made; isAgain if it was so before. It is asked where a change is
+// applied, and not where it is proposed: so all members judge alike.
+func (n *Node) judge(change *raftpb.ConfChange, wish wish) (isAgain bool, err error) {
 	n.mu.Lock()
 	defer n.mu.Unlock()
-	known, isThere := n.members[change.NodeID]
-	isAdded := change.Type == raftpb.ConfChangeAddNode || change.Type == raftpb.ConfChangeAddLearnerNode
-	isPromoted := isThere && change.Type == raftpb.ConfChangeAddNode && known.Learner
+	id, member := change.NodeID, wish.Member
+	known, isThere := n.members[id]
+	if wish.After != 0 && wish.After != n.changes {
+		return false, errOvertaken
+	}
+	if n.isMade(change.Type, id, member) {
+		return true, nil
+	}
+	if why := n.refusal(change.Type, id, member); why != "" {
+		return false, engine.Refused(why)
+	}
+	n.changes++
 	switch {
-	case isAdded && n.removed[change.NodeID]:
-		return fmt.Sprintf("the number %d was removed, and is not used again", change.NodeID)
-	case isAdded && isThere && !isPromoted:
-		return fmt.Sprintf("there is a member %d already", change.NodeID)
-	case isAdded && len(n.members) > 0 && n.lacksAddress(member):
+	case change.Type == raftpb.ConfChangeRemoveNode:
+		delete(n.members, id)
+		n.removed[id] = true
+		return false, nil
+	case change.Type == raftpb.ConfChangeUpdateNode:
+		known.Peer, known.Client = member.Peer, member.Client
+	case isThere: // it is to vote, or is to vote later, or no more
+		known.Learner, known.Promote = member.Learner, member.Promote
+	default:
+		known = member
+	}
+	n.members[id] = known
+	return false, nil
+}
+
+// isMade tells whether a change would change nothing.
+func (n *Node) isMade(kind raftpb.ConfChangeType, id uint64, member engine.Member) bool {
+	known, isThere := n.members[id]
+	switch {
+	case kind == raftpb.ConfChangeRemoveNode:
+		return n.removed[id]
+	case !isThere || !known.IsAt(member):
+		return false
+	case kind == raftpb.ConfChangeUpdateNode:
+		return true
+	case known.Learner:
+		return member.Learner && member.Promote == known.Promote
+	}
+	return !member.Learner || member.Promote
+}
+
+// refusal says why a change of members is not lawful, or "".
+func (n *Node) refusal(kind raftpb.ConfChangeType, id uint64, member engine.Member) string {
+	known, isThere := n.members[id]
+	if kind == raftpb.ConfChangeRemoveNode {
+		switch {
+		case !isThere:
+			return fmt.Sprintf("there is no member %d", id)
+		case !known.Learner && n.voters() == 1:
+			return fmt.Sprintf("%d is the only member that votes", id)
+		}
+		return ""
+	}
+	isAdded := kind == raftpb.ConfChangeAddNode || kind == raftpb.ConfChangeAddLearnerNode
+	switch {
+	case isAdded && n.removed[id]:
+		return fmt.Sprintf("the number %d was removed, and is not used again", id)
+	case isAdded && isThere && !known.IsAt(member):
+		return fmt.Sprintf("there is a member %d already, at other addresses", id)
+	case isAdded && isThere && !known.Learner:
+		return fmt.Sprintf("member %d votes already, and can't go back to learning", id)
+	case isAdded && !isThere && len(n.members) > 0 && n.lacksAddress(member):
 		return "a member has no address for the others: start it with --peer"
 	case !isAdded && !isThere:
-		return fmt.Sprintf("there is no member %d", change.NodeID)
-	case change.Type == raftpb.ConfChangeRemoveNode && !known.Learner && n.voters() == 1:
-		return fmt.Sprintf("%d is the only member that votes", change.NodeID)
-	case change.Type == raftpb.ConfChangeUpdateNode && len(n.members) > 1 && member.Peer == "":
+		return fmt.Sprintf("there is no member %d", id)
+	case !isAdded && len(n.members) > 1 && member.Peer == "":
 		return "it has no address for the others"
-	case change.Type != raftpb.ConfChangeRemoveNode && member.Peer != "" && !n.isAddress(member):
+	case member.Peer != "" && !n.isAddress(member):
 		return fmt.Sprintf("this is no address: %q", member.Peer) // (all members would end by it)
 	}
-	switch change.Type {
-	case raftpb.ConfChangeRemoveNode:
-		delete(n.members, change.NodeID)
-		n.removed[change.NodeID] = true
-	case raftpb.ConfChangeUpdateNode:
-		member.Learner = known.Learner
-		n.members[change.NodeID] = member
-	default:
-		n.members[change.NodeID] = member
+	return n.taken(id, member)
+}
+
+// taken names the member that has one of the addresses of another, or is "".
+func (n *Node) taken(id uint64, member engine.Member) string {
+	for _, other := range n.members {
+		for _, address := range []string{member.Peer, member.Client} {
+			if other.ID != id && address != "" && (address == other.Peer || address == other.Client) {
+				return fmt.Sprintf("member %d has the address %s", other.ID, address)
+			}
+		}
 	}
 	return ""
 }
@@ -179,23 +247,21 @@ func (n *Node) lacksAddress(added engine.Member) bool {
 // applyChange makes a change of members, and returns false once this one is none.
 func (n *Node) applyChange(entry *raftpb.Entry) bool {
 	var change raftpb.ConfChange
-	var member engine.Member
 	n.must("a change of members can't be read", change.Unmarshal(entry.Data))
-	if change.Type != raftpb.ConfChangeRemoveNode {
-		n.must("a change of members can't be read", json.Unmarshal(change.Context, &member))
-	}
+	wish, err := wishOf(&change)
+	n.must("a change of members can't be read", err)
 	id := change.NodeID
-	refused := n.judge(&change, member)
-	if refused != "" {
+	isAgain, refused := n.judge(&change, wish)
+	isMade := !isAgain && refused == nil
+	if !isMade {
 		change.NodeID = raft.None // raft must hear that the change is over, or it takes no other
 	}
 	n.conf = *n.raft.ApplyConfChange(change)
-	if refused != "" {
-		n.changed = append(n.changed, changeOutcome{change.ID, engine.Refused(refused)})
+	n.changed = append(n.changed, changeOutcome{change.ID, isAgain, refused})
+	if !isMade {
 		return true
 	}
-	n.connect(change.Type, id, member)
-	n.changed = append(n.changed, changeOutcome{change.ID, nil})
+	n.connect(change.Type, id, wish.Member)
 	if change.Type == raftpb.ConfChangeRemoveNode && id == n.cfg.Self.ID {
 		n.end(engine.ErrRemoved)
 		return false
@@ -203,17 +269,22 @@ func (n *Node) applyChange(entry *raftpb.Entry) bool {
 	return true
 }
 
+func wishOf(change *raftpb.ConfChange) (wish wish, err error) {
+	return wish, json.Unmarshal(change.Context, &wish)
+}
+
 // A changeOutcome is the outcome of a change of members, by the number of its proposal.
 type changeOutcome struct {
-	id  uint64
-	err error
+	id      uint64
+	isAgain bool
+	err     error
 }
 
 // tellChanges tells of the changes that were applied. Only now raft counts them as over: whoever hears of one may ask for the
 // next one at once.
 func (n *Node) tellChanges() {
 	for _, it := range n.changed {
-		n.tell(it.id, nil, it.err)
+		n.tell(it.id, it.isAgain, it.err)
 	}
 	n.changed = nil
 }
@@ -250,43 +321,30 @@ func (n *Node) disconnect(id uint64) {
 }
 
 // reconfigure proposes a change of members until it is told. Where the leader has not applied the one before yet, it makes an
-// empty entry of it, without a word. A change that comes a second time is not lawful any more, so nothing is made twice.
-func (n *Node) reconfigure(ctx context.Context, change raftpb.ConfChange) error {
+// empty entry of it, without a word.
+func (n *Node) reconfigure(ctx context.Context, kind raftpb.ConfChangeType, wish wish) (isAgain bool, err error) {
+	text, err := json.Marshal(wish)
+	if err != nil {
+		return false, err
+	}
 	id, told := n.wait()
-	change.ID = id
 	defer n.forgetWaiting(id)
+	change := raftpb.ConfChange{ID: id, Type: kind, NodeID: wish.ID, Context: text}
 	for isFirst := true; ; isFirst = false {
 		if err := n.raft.ProposeConfChange(ctx, change); err != nil && isFirst {
-			return engine.ErrNoLeader
+			return false, engine.ErrNoLeader
 		}
 		select {
 		case outcome := <-told:
-			return outcome.err
+			isAgain, _ := outcome.told.(bool)
+			return isAgain, outcome.err
 		case <-time.After(n.cfg.Election):
 		case <-ctx.Done():
-			return engine.ErrOutcomeUnknown
+			return false, engine.ErrOutcomeUnknown
 		case <-n.done:
-			return engine.ErrOutcomeUnknown
+			return false, engine.ErrOutcomeUnknown
 		}
 	}
-}
-
-// Add adds a member, or makes one vote that only learned.
-func (n *Node) Add(ctx context.Context, member engine.Member) error {
-	text, err := json.Marshal(member)
-	if err != nil {
-		return err
-	}
-	kind := raftpb.ConfChangeAddNode
-	if member.Learner {
-		kind = raftpb.ConfChangeAddLearnerNode
-	}
-	return n.reconfigure(ctx, raftpb.ConfChange{Type: kind, NodeID: member.ID, Context: text})
-}
-
-// Remove removes a member.
-func (n *Node) Remove(ctx context.Context, id uint64) error {
-	return n.reconfigure(ctx, raftpb.ConfChange{Type: raftpb.ConfChangeRemoveNode, NodeID: id})
 }
 
 // Lead makes a member the leader. A leader gives an attempt up after one election timeout, so it is asked again.
@@ -324,26 +382,22 @@ const leadTime = 10 * time.Millisecond
 
 // announce tells the group where this member is, if it was started at other addresses than the group knows.
 func (n *Node) announce() {
-	text, _ := json.Marshal(n.cfg.Self) // (numbers and texts alone: never an error)
-	change := raftpb.ConfChange{Type: raftpb.ConfChangeUpdateNode, NodeID: n.cfg.Self.ID, Context: text}
 	for {
 		select {
 		case <-time.After(n.cfg.Election):
 		case <-n.stop:
 			return
 		}
-		n.mu.Lock()
-		known, isMember := n.members[n.cfg.Self.ID]
-		n.mu.Unlock()
+		now := n.roster()
+		known, isMember := now.members[n.cfg.Self.ID]
 		if !isMember || atomic.LoadUint64(&n.lead) == raft.None {
 			continue
 		}
-		known.Learner = n.cfg.Self.Learner // (the addresses alone are this member's to tell)
-		if known == n.cfg.Self {
+		if known.IsAt(n.cfg.Self) {
 			return
 		}
 		ctx, cancel := context.WithTimeout(context.Background(), 5*n.cfg.Election)
-		err := n.reconfigure(ctx, change)
+		_, err := n.reconfigure(ctx, raftpb.ConfChangeUpdateNode, wish{n.cfg.Self, now.changes})
 		cancel()
 		var refused engine.Refused
 		if errors.As(err, &refused) {
@@ -368,6 +422,7 @@ func (n *Node) Process(ctx context.Context, message raftpb.Message) error {
 	if n.IsIDRemoved(message.From) || n.isAlone() {
 		return nil
 	}
+	n.heard.note(message.From)
 	return n.raft.Step(ctx, message)
 }
 

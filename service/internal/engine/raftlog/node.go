@@ -74,8 +74,11 @@ type Node struct {
 	behind  []applyWaiter            // readers who wait until an index is applied
 	members map[uint64]engine.Member // part of the replicated state
 	removed map[uint64]bool          // the same: no number is used again
+	changes uint64                   // the same: how many changes of members were made
 	round   *round                   // of the readers who come now
 	err     error
+
+	heard heard // when each member was last
 
 	conf     raftpb.ConfState // of the loop
 	isLeader bool             // of the loop
@@ -102,7 +105,7 @@ type outcome struct {
 func Start(cfg Config, machine engine.Machine) (*Node, error) {
 	n := &Node{cfg: cfg, machine: machine, storage: raft.NewMemoryStorage(), waiting: map[uint64]chan outcome{},
 		reads: map[uint64]chan uint64{}, members: map[uint64]engine.Member{},
-		removed: map[uint64]bool{}, round: newRound(), readers: make(chan struct{}, 1), snapshots: make(chan chan error),
+		removed: map[uint64]bool{}, heard: heard{at: map[uint64]time.Time{}}, round: newRound(), readers: make(chan struct{}, 1), snapshots: make(chan chan error),
 		written: make(chan error, 1), leaving: make(chan uint64), stop: make(chan struct{}), done: make(chan struct{})}
 	if err := n.begin(); err != nil {
 		n.release()
@@ -111,6 +114,7 @@ func Start(cfg Config, machine engine.Machine) (*Node, error) {
 	go n.loop()
 	go n.readLoop()
 	go n.announce()
+	go n.promoteLoop()
 	return n, nil
 }
 

@@ -545,7 +545,7 @@ func groupOf(t *testing.T, size int, changes ...func(*Config)) *group {
 	t.Helper()
 	g := &group{t: t, configs: map[uint64]Config{}, nodes: map[uint64]*Node{}, machines: map[uint64]*list{}}
 	for id := uint64(1); id <= uint64(size); id++ {
-		g.members = append(g.members, engine.Member{ID: id, Peer: testports.Free(t), Client: "127.0.0.1:1"})
+		g.members = append(g.members, memberAt(t, id))
 	}
 	for _, member := range g.members {
 		cfg, _ := configOf(t, t.TempDir(), member, g.members...)
@@ -556,6 +556,10 @@ func groupOf(t *testing.T, size int, changes ...func(*Config)) *group {
 		g.start(member.ID)
 	}
 	return g
+}
+
+func memberAt(t *testing.T, id uint64) engine.Member {
+	return engine.Member{ID: id, Peer: testports.Free(t), Client: fmt.Sprintf("127.0.0.1:%d", 1000+id)}
 }
 
 func (g *group) start(id uint64) {
@@ -657,37 +661,81 @@ func TestAMemberThatWasAwayGetsASnapshot(t *testing.T) {
 	g.alike(texts(1, 301))
 }
 
+// add adds a member, starts it, and waits until it votes.
 func (g *group) add(id uint64) {
 	g.t.Helper()
-	member := engine.Member{ID: id, Peer: testports.Free(g.t), Client: "127.0.0.1:1"}
-	g.must(member)
-	g.configs[id], _ = configOf(g.t, g.t.TempDir(), member)
-	g.start(id)
+	member := memberAt(g.t, id)
+	g.must(adding(member))
+	g.join(member)
+	g.expectLearner(id, false)
 }
 
-// heard asks the leader for a change until an answer comes. It tells whether it asked more than once: then the change may
-// have been made before.
-func (g *group) heard(change func(context.Context, *Node) error) (err error, isAgain bool) {
+// join starts a member that was added.
+func (g *group) join(member engine.Member) {
+	g.t.Helper()
+	member.Learner = false // (it is not told on its command line)
+	g.configs[member.ID], _ = configOf(g.t, g.t.TempDir(), member)
+	g.start(member.ID)
+}
+
+// A change of members, as a node is asked for it.
+type asked func(context.Context, *Node) (isAgain bool, err error)
+
+func adding(member engine.Member) asked {
+	return func(ctx context.Context, n *Node) (bool, error) { return n.Add(ctx, member, false) }
+}
+
+func removing(id uint64) asked {
+	return func(ctx context.Context, n *Node) (bool, error) { return n.Remove(ctx, id, false) }
+}
+
+// heard asks the leader for a change until an answer comes.
+func (g *group) heard(change asked) (isAgain bool, err error) {
 	g.t.Helper()
 	ctx, cancel := context.WithTimeout(context.Background(), long)
 	defer cancel()
 	for ctx.Err() == nil {
-		err = change(ctx, g.nodes[g.leader()])
-		if err != engine.ErrOutcomeUnknown && err != engine.ErrNoLeader {
-			return err, isAgain
+		isAgain, err = change(ctx, g.nodes[g.leader()])
+		var other *engine.NotLeader
+		if err != engine.ErrOutcomeUnknown && err != engine.ErrNoLeader && !errors.As(err, &other) {
+			return isAgain, err
 		}
-		isAgain = true
 		time.Sleep(10 * time.Millisecond)
 	}
-	return err, isAgain
+	return isAgain, err
 }
 
-func (g *group) must(member engine.Member) {
+// must asks for a change that is lawful.
+func (g *group) must(change asked) (isAgain bool) {
 	g.t.Helper()
-	err, isAgain := g.heard(func(ctx context.Context, n *Node) error { return n.Add(ctx, member) })
-	isMade := isAgain && err == engine.Refused(fmt.Sprintf("there is a member %d already", member.ID))
-	if err != nil && !isMade {
+	isAgain, err := g.heard(change)
+	if err != nil {
 		g.t.Fatal(err)
+	}
+	return isAgain
+}
+
+// refused expects a change that is not lawful, by the words.
+func (g *group) refused(change asked, words string) {
+	g.t.Helper()
+	_, err := g.heard(change)
+	if why, isRefused := err.(engine.Refused); !isRefused || !strings.Contains(string(why), words) {
+		g.t.Errorf("%v, and not %q", err, words)
+	}
+}
+
+// expectLearner waits until all members know one as one that learns, or votes.
+func (g *group) expectLearner(id uint64, is bool) {
+	g.t.Helper()
+	for _, n := range g.nodes {
+		eventually(g.t, fmt.Sprintf("all hear of member %d", id), func() bool {
+			for _, member := range n.Status().Members {
+				if member.ID == id {
+					return member.Learner == is
+				}
+			}
+			return false
+		})
 	}
 }
 
@@ -697,29 +745,37 @@ func TestMembersComeAndGo(t *testing.T) {
 	proposeAll(t, g.nodes[1], texts(1, 10))
 	g.add(4)
 	g.alike(texts(1, 10))
-	add := func(member engine.Member) func(context.Context, *Node) error {
-		return func(ctx context.Context, n *Node) error { return n.Add(ctx, member) }
-	}
 	for name, it := range map[string]struct {
-		change func(context.Context, *Node) error
+		change asked
 		want   string
 	}{
-		"twice":   {add(engine.Member{ID: 4, Peer: "127.0.0.1:1"}), "there is a member 4 already"},
-		"unknown": {func(ctx context.Context, n *Node) error { return n.Remove(ctx, 9) }, "there is no member 9"},
-		"address": {add(engine.Member{ID: 9}), "a member has no address for the others: start it with --peer"},
-		"port":    {add(engine.Member{ID: 9, Peer: "here"}), "this is no address: \"here\""},
+		"elsewhere":    {adding(engine.Member{ID: 4, Peer: "127.0.0.1:1"}), "there is a member 4 already, at other addresses"},
+		"back":         {adding(learner(g.configs[4].Self)), "member 4 votes already, and can't go back to learning"},
+		"unknown":      {removing(9), "there is no member 9"},
+		"no address":   {adding(engine.Member{ID: 9}), "a member has no address for the others: start it with --peer"},
+		"port":         {adding(engine.Member{ID: 9, Peer: "here"}), "this is no address: \"here\""},
+		"one's peer":   {adding(engine.Member{ID: 9, Peer: g.configs[4].Self.Peer}), "member 4 has the address " + g.configs[4].Self.Peer},
+		"one's client": {adding(engine.Member{ID: 9, Peer: "127.0.0.1:1", Client: "127.0.0.1:1002"}), "member 2 has the address 127.0.0.1:1002"},
 	} {
-		if err, _ := g.heard(it.change); err != engine.Refused(it.want) {
+		if _, err := g.heard(it.change); err != engine.Refused(it.want) {
 			t.Errorf("%s: %v", name, err)
 		}
 	}
+	if !g.must(adding(g.configs[4].Self)) {
+		t.Error("a member that is there is added again")
+	}
 	gone := g.removeLeader()
+	if !g.must(removing(gone)) {
+		t.Error("a member that was removed is removed again")
+	}
 	proposeAll(t, g.nodes[g.other(gone)], texts(11, 12))
 	g.alike(texts(1, 12))
-	err, _ := g.heard(add(engine.Member{ID: gone, Peer: "127.0.0.1:1"}))
-	if want := fmt.Sprintf("the number %d was removed, and is not used again", gone); err != engine.Refused(want) {
-		t.Fatal(err)
-	}
+	g.refused(adding(engine.Member{ID: gone, Peer: "127.0.0.1:1"}), fmt.Sprintf("the number %d was removed, and is not used again", gone))
+}
+
+func learner(member engine.Member) engine.Member {
+	member.Learner = true
+	return member
 }
 
 // removeLeader removes one member while it leads, and waits until it has ended.
@@ -729,7 +785,9 @@ func (g *group) removeLeader() uint64 {
 	ctx, cancel := context.WithTimeout(context.Background(), long)
 	defer cancel()
 	for g.nodes[gone].Err() == nil && ctx.Err() == nil { // (the leader may end before it hears)
-		if err := g.nodes[gone].Remove(ctx, gone); err != nil && err != engine.ErrOutcomeUnknown && err != engine.ErrNoLeader {
+		_, err := g.nodes[gone].Remove(ctx, gone, false)
+		var refused engine.Refused
+		if errors.As(err, &refused) {
 			g.t.Fatal(err)
 		}
 	}
@@ -754,11 +812,7 @@ func TestChangesOfMembersFollowAtOnce(t *testing.T) {
 	g := groupOf(t, 3)
 	propose(t, g.nodes[1], "entry 1")
 	for round := 0; round < 30; round++ {
-		n := g.nodes[uint64(round%3+1)]
-		err, _ := g.heard(func(ctx context.Context, _ *Node) error { return n.Remove(ctx, 9) })
-		if err != engine.Refused("there is no member 9") {
-			t.Fatalf("round %d: %v", round, err)
-		}
+		g.refused(removing(9), "there is no member 9")
 	}
 }
 
@@ -767,11 +821,11 @@ func TestAFolderThatWasBegunAloneIsNotTakenIn(t *testing.T) {
 	t.Parallel()
 	g := groupOf(t, 3)
 	proposeAll(t, g.nodes[1], texts(1, 5))
-	member := engine.Member{ID: 4, Peer: testports.Free(t), Client: "127.0.0.1:1"}
+	member := memberAt(t, 4)
 	cfg, _ := configOf(t, t.TempDir(), member, member)
 	n, _ := begin(t, cfg)
 	propose(t, n, "another entry")
-	g.must(member)
+	g.must(adding(member))
 	proposeAll(t, g.nodes[g.leader()], texts(6, 9))
 	g.alike(texts(1, 9))
 	for round := 0; round < 2; round++ {
@@ -791,7 +845,7 @@ func TestOneMemberGrowsToThree(t *testing.T) {
 	proposeAll(t, n, texts(1, 5))
 	ctx, cancel := context.WithTimeout(context.Background(), long)
 	defer cancel()
-	if err := n.Add(ctx, engine.Member{ID: 2, Peer: testports.Free(t)}); err == nil || !strings.Contains(err.Error(), "--peer") {
+	if _, err := n.Add(ctx, memberAt(t, 2), false); err == nil || !strings.Contains(err.Error(), "--peer") {
 		t.Fatal(err)
 	}
 	if err := n.Snapshot(); err != nil { // from before the others are added
@@ -799,7 +853,7 @@ func TestOneMemberGrowsToThree(t *testing.T) {
 	}
 	eventually(t, "a snapshot is made", func() bool { return n.Status().Snapshot > 0 })
 	n.Close()
-	self := engine.Member{ID: 1, Peer: testports.Free(t), Client: "127.0.0.1:1"}
+	self := memberAt(t, 1)
 	g := &group{t: t, configs: map[uint64]Config{}, nodes: map[uint64]*Node{}, machines: map[uint64]*list{}}
 	cfg.Self, cfg.Members, cfg.Listen = self, []engine.Member{self}, self.Peer
 	g.configs[1] = cfg
@@ -900,88 +954,6 @@ func TestALeaderIsMovedByRequest(t *testing.T) {
 		t.Errorf("to one that is away: %v", err)
 	}
 	propose(t, g.nodes[g.leader()], "entry 6") // the group goes on
-}
-
-func TestALearnerKeepsTheLogAndDoesNotVote(t *testing.T) {
-	t.Parallel()
-	g := groupOf(t, 2)
-	proposeAll(t, g.nodes[1], texts(1, 3))
-	member := engine.Member{ID: 3, Peer: testports.Free(t), Client: "127.0.0.1:1", Learner: true}
-	g.must(member)
-	g.members = append(g.members, member)
-	joins := member
-	joins.Learner = false // (it is not told on its command line)
-	cfg, _ := configOf(t, t.TempDir(), joins)
-	cfg.Members = nil
-	g.configs[3] = cfg
-	g.start(3)
-	g.alike(texts(1, 3))
-	propose(t, g.nodes[3], "entry 4") // it passes calls on
-	time.Sleep(2 * cfg.Election)      // (it tells its address now, and stays a learner)
-	expectLearner(t, g, true)
-	refused(t, g, func(ctx context.Context, n *Node) error { return n.Lead(ctx, 3) }, "member 3 only learns")
-	refused(t, g, func(ctx context.Context, n *Node) error { return n.Add(ctx, member) }, "there is a member 3 already")
-
-	g.nodes[2].Close() // one of two that vote: the learner is no majority with the other
-	delete(g.nodes, 2)
-	ctx, cancel := context.WithTimeout(context.Background(), 3*cfg.Election)
-	defer cancel()
-	if told, err := g.nodes[1].Propose(ctx, []byte("nobody counts this")); err == nil {
-		t.Errorf("told %v by one of two", told)
-	}
-	g.start(2)
-	eventually(t, "the group goes on", func() bool { return g.nodes[2].Status().Leader != 0 })
-
-	g.nodes[3].Close() // after a restart it still learns
-	g.start(3)
-	expectLearner(t, g, true)
-	g.must(joins)
-	expectLearner(t, g, false)
-	g.nodes[2].Close() // now it is a majority with the other
-	delete(g.nodes, 2)
-	propose(t, g.nodes[1], "entry 5")
-}
-
-func TestALearnerFollowsOneWhoAloneVotes(t *testing.T) {
-	t.Parallel()
-	g := groupOf(t, 1)
-	proposeAll(t, g.nodes[1], texts(1, 3))
-	member := engine.Member{ID: 2, Peer: testports.Free(t), Client: "127.0.0.1:1", Learner: true}
-	g.must(member)
-	g.members = append(g.members, member)
-	cfg, _ := configOf(t, t.TempDir(), member)
-	cfg.Members = nil
-	g.configs[2] = cfg
-	g.start(2)
-	g.alike(texts(1, 3))
-	propose(t, g.nodes[2], "entry 4")
-	proposeAll(t, g.nodes[1], texts(5, 7))
-	g.nodes[1].Close()
-	g.start(1)
-	proposeAll(t, g.nodes[1], texts(8, 9))
-	g.alike(texts(1, 9))
-}
-
-// expectLearner waits until all members know member 3 as one that learns, or votes.
-func expectLearner(t *testing.T, g *group, is bool) {
-	t.Helper()
-	for id := range g.nodes {
-		eventually(t, fmt.Sprintf("member %d hears of it", id), func() bool {
-			members := g.nodes[id].Status().Members
-			return len(members) == 3 && members[2].Learner == is
-		})
-	}
-}
-
-// refused expects a change that is not lawful, by the words.
-func refused(t *testing.T, g *group, change func(context.Context, *Node) error, words string) {
-	t.Helper()
-	ctx, cancel := context.WithTimeout(context.Background(), long)
-	defer cancel()
-	var why engine.Refused
-	if err := change(ctx, g.nodes[1]); !errors.As(err, &why) || string(why) != words {
-		t.Errorf("%v, and not %q", err, words)
-	}
 }
 
 // entries are those of the given indexes.
