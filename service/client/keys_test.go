@@ -1,0 +1,291 @@
+package client
+
+import (
+	"context"
+	"errors"
+	"math/rand"
+	"net"
+	"net/http"
+	"net/http/httptest"
+	"strings"
+	"testing"
+	"time"
+)
+
+var background = context.Background()
+
+// Each call is made at most once, and what its caller is told is so: by faults in each order, beside calls of others of which the
+// group forgets all but the last few.
+func TestEachCallIsMadeAtMostOnceAndToldRightly(t *testing.T) {
+	dice := rand.New(rand.NewSource(71))
+	told := map[string]int{}
+	for turn := 0; turn < 300; turn++ {
+		g := newGroup(8)
+		members, c := serve(t, g, 1+dice.Intn(3), Config{Timeout: 250 * time.Millisecond, Attempt: 30 * time.Millisecond})
+		for _, m := range members {
+			m.faults, m.others = someFaults(dice, dice.Intn(4)), dice.Intn(8)
+		}
+		for i := 0; i < 2; i++ {
+			told[checkOne(t, g, c, members)]++
+		}
+	}
+	for _, it := range []string{"told", "KeyForgotten"} {
+		if told[it] == 0 {
+			t.Errorf("it never came to %s: %v", it, told)
+		}
+	}
+	t.Log(told)
+}
+
+// checkOne makes one call and returns what came of it.
+func checkOne(t *testing.T, g *group, c *Client, members []*member) string {
+	t.Helper()
+	before := len(g.calls)
+	reply, err := c.Call(background, "p0", Tick())
+	g.mu.Lock()
+	g.makeLate()
+	tries := append([]call(nil), g.calls[before:]...)
+	made := map[string]int{}
+	for _, it := range tries {
+		made[it.Key] = g.made[it.Key]
+	}
+	g.mu.Unlock()
+	if len(made) > 1 {
+		t.Errorf("a call has %d keys", len(made))
+	}
+	count, key := 0, ""
+	for key, count = range made {
+	}
+	var unknown *OutcomeUnknown
+	var forgotten *KeyForgotten
+	switch {
+	case err == nil && (count != 1 || reply.N == 0):
+		t.Errorf("it was told and made %d times, tries %+v", count, tries)
+	case err == nil:
+		return "told"
+	case errors.As(err, &forgotten):
+		if count > 1 || forgotten.Key != key {
+			t.Errorf("a forgotten key was made %d times: %v", count, err)
+		}
+		return "KeyForgotten"
+	case errors.As(err, &unknown):
+		if count > 1 || unknown.Key != key || unknown.Since != tries[len(tries)-1].Since {
+			t.Errorf("what is unknown was made %d times: %+v, tries %+v", count, unknown, tries)
+		}
+		return "OutcomeUnknown"
+	case count != 0:
+		t.Errorf("%v, and it was made %d times, tries %+v", err, count, tries)
+	}
+	return "nothing made"
+}
+
+func TestEachFaultIsToldAsWhatItIs(t *testing.T) {
+	for _, it := range []struct {
+		name  string
+		fault fault
+		maybe bool // where nobody ever tells more
+	}{
+		{"503", busy, false}, {"429", tooMany, false}, {"504", unknown, true}, {"504 that is made later", notYet, true},
+		{"504 that is never made", never, true}, {"cut before", cutBefore, true}, {"cut after", cutAfter, true},
+		{"cut within the answer", cutWithin, true}, {"a member that hangs", hang, true}, {"502 of another", strange, true},
+		{"503 of another", strange503, true}, {"500", broken, true},
+	} {
+		g := newGroup(100)
+		members, c := serve(t, g, 2, Config{Attempt: 50 * time.Millisecond})
+		members[0].faults = []fault{it.fault}
+		if reply, err := c.Call(background, "p0", Tick()); err != nil || len(g.made) != 1 || reply.Clock != 1 {
+			t.Errorf("%s, and then another member: %+v %v, made %v", it.name, reply, err, g.made)
+		}
+		g = newGroup(100)
+		members, c = serve(t, g, 1, Config{Timeout: 80 * time.Millisecond, Attempt: 20 * time.Millisecond})
+		members[0].faults = repeat(it.fault, 1000)
+		_, err := c.Call(background, "p0", Tick())
+		var unknown *OutcomeUnknown
+		if err == nil || errors.As(err, &unknown) != it.maybe {
+			t.Errorf("%s alone: %v", it.name, err)
+			continue
+		}
+		if !it.maybe {
+			continue
+		}
+		members[0].faults = nil
+		again, err := c.Call(background, "p0", Tick(), WithKey(unknown.Key, unknown.Since))
+		if err != nil || g.made[unknown.Key] != 1 || again.N != 1 || len(g.made) != 1 {
+			t.Errorf("%s, and later again: %+v %v, made %v", it.name, again, err, g.made)
+		}
+	}
+}
+
+func repeat(it fault, count int) (found []fault) {
+	for i := 0; i < count; i++ {
+		found = append(found, it)
+	}
+	return found
+}
+
+func TestAllTriesHaveOneKeyAndTheSinceFromBeforeTheFirst(t *testing.T) {
+	g := newGroup(100)
+	members, c := serve(t, g, 1, Config{})
+	members[0].faults, members[0].others = []fault{never, busy, cutBefore, unknown}, 3
+	if _, err := c.Call(background, "p0", Tick()); err != nil {
+		t.Fatal(err)
+	}
+	for _, it := range g.calls {
+		if it.Key != g.calls[0].Key || it.Since != 10 || len(it.Key) != 32 {
+			t.Errorf("tries %+v", g.calls)
+		}
+	}
+	if len(g.calls) != 5 {
+		t.Errorf("%d tries", len(g.calls))
+	}
+	heard := g.index
+	if _, err := c.Call(background, "p0", Tick()); err != nil || g.calls[5].Since != heard || g.calls[5].Key == g.calls[0].Key {
+		t.Errorf("%v, the next call %+v, and index %d", err, g.calls[5], heard)
+	}
+}
+
+// A since that is too old is renewed where no try may have been made, and else nobody can know.
+func TestAKeyThatMayBeForgotten(t *testing.T) {
+	for _, it := range []struct {
+		name    string
+		faults  []fault
+		options []Option
+		isTold  bool
+	}{
+		{"at once", nil, nil, true},
+		{"behind 503", []fault{busy, tooMany, busy}, nil, true},
+		{"behind 504", []fault{never}, nil, false},
+		{"behind a broken connection", []fault{cutBefore}, nil, false},
+		{"with a key of its own", nil, []Option{WithKey("mine", 0)}, true},
+		{"with a key that was sent before", nil, []Option{WithKey("mine", 6)}, false},
+	} {
+		g := newGroup(4)
+		members, c := serve(t, g, 1, Config{})
+		if _, err := c.Index(background); err != nil {
+			t.Fatal(err)
+		}
+		members[0].faults = it.faults
+		g.others(20)
+		reply, err := c.Call(background, "p0", Tick(), it.options...)
+		var forgotten *KeyForgotten
+		first := g.calls[0]
+		switch {
+		case it.isTold && (err != nil || g.made[first.Key] != 1 || reply.Again):
+			t.Errorf("%s: %+v %v", it.name, reply, err)
+		case !it.isTold && (!errors.As(err, &forgotten) || forgotten.Key != first.Key || forgotten.Since != first.Since || g.made[first.Key] != 0):
+			t.Errorf("%s: %v, made %v", it.name, err, g.made[first.Key])
+		}
+	}
+}
+
+func TestWhatWasSentBeforeIsUnknownUntilItIsTold(t *testing.T) {
+	c := newClient(t, Config{Servers: []string{"127.0.0.1:9"}, Timeout: 20 * time.Millisecond})
+	var unknown *OutcomeUnknown
+	_, err := c.Call(background, "p0", Tick(), WithKey("mine", 6))
+	if !errors.As(err, &unknown) || unknown.Key != "mine" || unknown.Since != 6 {
+		t.Errorf("sent before: %v", err)
+	}
+	if _, err := c.Call(background, "p0", Tick(), WithKey("mine", 0)); err == nil || errors.As(err, &unknown) {
+		t.Errorf("never sent: %v", err)
+	}
+}
+
+// A refusal is the last word only where no earlier try may be made besides.
+func TestARefusalAfterATryThatNobodyToldOf(t *testing.T) {
+	for _, it := range []struct {
+		status int
+		code   string
+		maybe  bool
+	}{
+		{404, CodeNoBook, true}, {409, CodeBookExists, true}, {403, "forbidden", true}, {409, CodeMoved, false}, {400, "bad_request", false},
+		{422, CodeBadText, false},
+	} {
+		for _, isFirst := range []bool{true, false} {
+			turn := 0
+			if isFirst {
+				turn = 1
+			}
+			server := httptest.NewServer(http.HandlerFunc(func(w http.ResponseWriter, r *http.Request) {
+				m := &member{g: newGroup(1)}
+				if turn++; turn == 1 {
+					m.fail(w, 504, CodeOutcomeUnknown)
+					return
+				}
+				m.fail(w, it.status, it.code)
+			}))
+			c := newClient(t, Config{Servers: []string{server.URL}})
+			c.hearIndex(7)
+			_, err := c.CreateBook(background, "p0", "")
+			server.Close()
+			var unknown *OutcomeUnknown
+			var told *Error
+			isUnknown := errors.As(err, &unknown)
+			if isUnknown != (it.maybe && !isFirst) || !errors.As(err, &told) || told.Code != it.code || told.Status != it.status {
+				t.Errorf("%+v, at first %v: %v", it, isFirst, err)
+			}
+		}
+	}
+}
+
+func TestAContextEndsACall(t *testing.T) {
+	g := newGroup(100)
+	members, c := serve(t, g, 1, Config{})
+	members[0].faults = []fault{hang}
+	if _, err := c.Index(background); err != nil {
+		t.Fatal(err)
+	}
+	ctx, cancel := context.WithTimeout(background, 50*time.Millisecond)
+	defer cancel()
+	var unknown *OutcomeUnknown
+	_, err := c.Call(ctx, "p0", Tick())
+	if !errors.Is(err, context.DeadlineExceeded) || !errors.As(err, &unknown) {
+		t.Errorf("sent: %v", err)
+	}
+	_, err = c.Call(ctx, "p0", Tick())
+	if unknown = nil; !errors.Is(err, context.DeadlineExceeded) || errors.As(err, &unknown) {
+		t.Errorf("not sent: %v", err)
+	}
+}
+
+func TestAMemberIsLeftAloneAsLongAsItWants(t *testing.T) {
+	g := newGroup(100)
+	members, c := serve(t, g, 1, Config{})
+	members[0].faults, members[0].rest = []fault{tooMany}, "1"
+	begun := time.Now()
+	if _, err := c.Call(background, "p0", Tick()); err != nil || time.Since(begun) < time.Second {
+		t.Errorf("after %v: %v", time.Since(begun), err)
+	}
+	members, c = serve(t, g, 2, Config{})
+	members[0].faults, members[0].rest = []fault{busy}, "5"
+	begun = time.Now()
+	if _, err := c.Call(background, "p0", Tick()); err != nil || time.Since(begun) > 4*time.Second {
+		t.Errorf("another member is asked after %v: %v", time.Since(begun), err)
+	}
+	members[0].faults, members[1].faults, members[1].rest = []fault{busy}, []fault{busy}, "5"
+	c.cfg.Timeout = 300 * time.Millisecond
+	begun = time.Now()
+	if _, err := c.Call(background, "p0", Tick()); err == nil || time.Since(begun) > 3*time.Second {
+		t.Errorf("a rest beyond the timeout was waited for: %v, %v", time.Since(begun), err)
+	}
+}
+
+func TestNobodyWhoListensHasMadeNothing(t *testing.T) {
+	nobody, err := net.Listen("tcp", "127.0.0.1:0")
+	if err != nil {
+		t.Fatal(err)
+	}
+	nobody.Close()
+	g := newGroup(100)
+	_, other := serve(t, g, 1, Config{})
+	c := newClient(t, Config{Servers: append([]string{nobody.Addr().String()}, other.order()...)})
+	if reply, err := c.Call(background, "p0", Tick()); err != nil || reply.N != 1 {
+		t.Errorf("%+v %v", reply, err)
+	}
+	c = newClient(t, Config{Servers: []string{nobody.Addr().String()}, Timeout: 50 * time.Millisecond})
+	c.hearIndex(7)
+	var unknown *OutcomeUnknown
+	_, err = c.Call(background, "p0", Tick())
+	if err == nil || errors.As(err, &unknown) || !strings.Contains(err.Error(), "does not answer") {
+		t.Error(err)
+	}
+}
