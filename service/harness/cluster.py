@@ -154,7 +154,7 @@ class Group:
         end = time.monotonic() + limit
         while time.monotonic() < end:
             told = [self.status(it) for it in list(self.members.values()) if it.runs() and not it.is_stopped]
-            leads = [(it["term"], it["id"]) for it in told if it and it.get("leader") == it.get("id")]
+            leads = [(it["term"], it["id"]) for it in told if "term" in it and it["leader"] == it["id"]]
             if leads:
                 return max(leads)[1]
             time.sleep(0.02)

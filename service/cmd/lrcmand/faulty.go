@@ -1,13 +1,15 @@
 //go:build faulty
 
 // With this tag the program does what it must never do, so that service/harness can be seen to find it; it takes its library for
-// one of other rules; and the files of its log may be small, so that a test sees many of them. service/build never sets it.
+// one of other rules; the files of its log may be small, so that a test sees many of them; and a start may take long. service/build
+// never sets it.
 
 package main
 
 import (
 	"os"
 	"strconv"
+	"time"
 
 	"go.etcd.io/etcd/wal"
 
@@ -23,6 +25,9 @@ func init() {
 func readKnobs() (k knobs) {
 	if rules, err := strconv.ParseUint(os.Getenv("LRCMAND_RULES"), 10, 32); err == nil {
 		k.state.Rules = uint32(rules)
+	}
+	if slow, err := time.ParseDuration(os.Getenv("LRCMAND_SLOW_START")); err == nil {
+		k.raftlog.Opened = func(*wal.WAL) { time.Sleep(slow) }
 	}
 	switch os.Getenv("LRCMAND_FAULT") {
 	case "early":

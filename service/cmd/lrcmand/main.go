@@ -3,23 +3,13 @@
 package main
 
 import (
-	"context"
-	"crypto/tls"
+	"errors"
 	"fmt"
-	"log"
-	"net"
-	"net/http"
 	"os"
-	"os/signal"
-	"syscall"
 
 	"lrcman/service/internal/book"
 	"lrcman/service/internal/ctl"
-	"lrcman/service/internal/engine"
-	"lrcman/service/internal/engine/raftlog"
-	"lrcman/service/internal/httpapi"
-	"lrcman/service/internal/replica"
-	"lrcman/service/internal/state"
+	"lrcman/service/internal/logging"
 )
 
 // The statuses that the process ends with.
@@ -30,81 +20,49 @@ const (
 )
 
 func main() {
-	logger := log.New(os.Stderr, "lrcmand: ", log.LstdFlags|log.Lmsgprefix)
-	if len(os.Args) > 1 && os.Args[1] == "ctl" {
-		os.Exit(ctl.Main(os.Args[2:], os.Stdout, os.Stderr))
+	words := os.Args[1:]
+	isCheck := false
+	if len(words) > 0 {
+		switch words[0] {
+		case "ctl":
+			os.Exit(ctl.Main(words[1:], os.Stdout, os.Stderr))
+		case "check":
+			isCheck, words = true, words[1:]
+		}
 	}
-	options, err := parse(os.Args[1:])
-	if err != nil {
+	options, err := parse(words)
+	var told answer
+	if errors.As(err, &told) {
+		fmt.Println(told)
+		return
+	} else if err != nil {
 		fmt.Fprintf(os.Stderr, "lrcmand: %v\n", err)
 		os.Exit(statusUsage)
 	}
-	os.Exit(run(options, logger))
+	if isCheck {
+		os.Exit(check(options))
+	}
+	os.Exit(run(options, logging.New(os.Stderr, options.logging)))
 }
 
-func run(o *options, logger *log.Logger) int {
-	if err := book.Check(); err != nil {
-		logger.Print(err)
-		return statusFault
+// check judges the options and the files that they name, and starts nothing.
+func check(o *options) int {
+	err := book.Check()
+	if err == nil && o.cert != "" {
+		_, err = o.tls()
 	}
-	listener, config, err := o.listener()
 	if err != nil {
-		logger.Print(err)
+		fmt.Fprintf(os.Stderr, "lrcmand check: %v\n", err)
 		return statusUsage
 	}
-	knobs := readKnobs()
-	books, cfg := state.NewWith(knobs.state), o.config(logger)
-	cfg.Knobs = knobs.raftlog
-	node, err := raftlog.Start(cfg, books)
-	if err != nil {
-		logger.Print(err)
-		return statusFault
-	}
-	r := replica.New(replica.Config{Engine: node, State: books, Timeout: o.timeout, Tick: o.tickTime(), Log: logger,
-		Knobs: knobs.replica})
-	monitoring := newMonitoring(node, books, o.data)
-	api := httpapi.New(httpapi.Config{Engine: node, State: books, Replica: r, Rights: o.rights, Rates: o.rates(), Timeout: o.timeout,
-		Mounts: monitoring.mounts(), Observe: monitoring.metrics.Observe})
-	ctx, stop := context.WithCancel(context.Background())
-	go r.Run(ctx)
-	server := api.Server()
-	go serve(server, listener, config, logger)
-	logger.Printf("member %d serves %s, rules %d", o.id, o.listen, books.Rules())
-	status := wait(node, logger)
-	monitoring.stop()
-	stop()
-	api.Close()
-	server.Close()
-	node.Close()
-	return status
+	fmt.Println("the options are right")
+	return 0
 }
 
-func serve(server *http.Server, listener net.Listener, config *tls.Config, logger *log.Logger) {
-	var err error
-	if config == nil {
-		err = server.Serve(listener)
-	} else {
-		// (with HTTP/2 requests would share a connection, and so its deadlines)
-		server.TLSConfig, server.TLSNextProto = config, map[string]func(*http.Server, *tls.Conn, http.Handler){}
-		err = server.ServeTLS(listener, "", "")
+func run(o *options, logger *logging.Logger) int {
+	s, status := startService(o, logger)
+	if s == nil {
+		return status
 	}
-	if err != http.ErrServerClosed {
-		logger.Fatal(err)
-	}
-}
-
-// wait returns when the process is to end, with its status.
-func wait(e engine.Engine, logger *log.Logger) int {
-	signals := make(chan os.Signal, 1)
-	signal.Notify(signals, syscall.SIGTERM, os.Interrupt)
-	select {
-	case <-signals:
-		return 0
-	case <-e.Done():
-	}
-	logger.Print(e.Err())
-	if e.Err() == engine.ErrRemoved {
-		return statusRemoved
-	}
-	return statusFault
+	return s.wait()
 }

@@ -3,8 +3,6 @@ package main
 import (
 	"crypto/tls"
 	"crypto/x509"
-	"io"
-	"log"
 	"net/http"
 	"os"
 	"path/filepath"
@@ -14,6 +12,7 @@ import (
 	"time"
 
 	"lrcman/service/internal/engine"
+	"lrcman/service/internal/logging"
 	"lrcman/service/internal/testcerts"
 	"lrcman/service/internal/testports"
 )
@@ -28,7 +27,10 @@ func TestTheCommandLineIsReadOrRefused(t *testing.T) {
 	for words, want := range map[string]string{
 		"":                                       "--data DIR is missing",
 		"--data d more":                          `this word is none of the options: "more"`,
-		"--data d --unknown":                     "flag provided but not defined: -unknown",
+		"--data d --unknown":                     "there is no option --unknown",
+		"--data d --trail 1":                     "there is no option --trail; there is --trailing",
+		"--data d --log-level loud":              "--log-level is debug, info, warn, error, and not",
+		"--data d --log-format xml":              "--log-format is text or json",
 		"--data d --id x":                        `invalid value "x" for flag -id`,
 		"--data d --id 0":                        "--id is 1 to 65535",
 		"--data d --id 65536":                    "--id is 1 to 65535",
@@ -54,7 +56,7 @@ func TestTheCommandLineIsReadOrRefused(t *testing.T) {
 		"--data d --client-ca c":                 "--client-ca with both",
 		"--data d --peer-cert c --peer-key k":    "--peer-cert, --peer-key and --peer-ca come together",
 		"--data d --token-file " + folder + "/x": "no such file",
-		"--help":                                 "usage: lrcmand --data DIR [OPTIONS], or lrcmand ctl WORDS",
+		"--help":                                 "usage: lrcmand --data DIR [OPTIONS]",
 
 		"--data d": "",
 		"--data d --listen 127.0.0.1:1 --peer [::1]:2 --tick 0": "",
@@ -68,7 +70,7 @@ func TestTheCommandLineIsReadOrRefused(t *testing.T) {
 		}
 		if err == nil && strings.Contains(words, three) {
 			wanted := engine.Member{ID: 2, Peer: "h2:1", Client: "h2:2"}
-			if len(o.first) != 3 || o.self != wanted || o.config(nil).Listen != "h2:1" {
+			if len(o.first) != 3 || o.self != wanted || o.config(logging.Nowhere()).Listen != "h2:1" {
 				t.Errorf("%q: %+v", words, o)
 			}
 		}
@@ -78,7 +80,7 @@ func TestTheCommandLineIsReadOrRefused(t *testing.T) {
 		t.Error(o, err)
 	}
 	one, err := parse([]string{"--data", "d", "--group", "a"})
-	if err != nil || one.config(nil).Group == o.config(nil).Group {
+	if err != nil || one.config(logging.Nowhere()).Group == o.config(logging.Nowhere()).Group {
 		t.Error("two groups have one number")
 	}
 }
@@ -91,7 +93,7 @@ func TestClientsShowCertificates(t *testing.T) {
 	if err != nil {
 		t.Fatal(err)
 	}
-	go run(o, log.New(io.Discard, "", 0)) // (it ends with the tests)
+	go run(o, logging.Nowhere()) // (it ends with the tests)
 	ask := func(client *http.Client, scheme string) (int, error) {
 		answer, err := client.Get(scheme + "://" + address + "/health")
 		if err != nil {

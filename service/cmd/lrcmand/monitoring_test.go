@@ -5,7 +5,6 @@ import (
 	"context"
 	"fmt"
 	"io"
-	"log"
 	"net/http"
 	"regexp"
 	"strings"
@@ -13,6 +12,7 @@ import (
 	"time"
 
 	"lrcman/service/internal/ctl"
+	"lrcman/service/internal/logging"
 	"lrcman/service/internal/survey/recorded"
 	"lrcman/service/internal/testbrowser"
 	"lrcman/service/internal/testports"
@@ -26,7 +26,7 @@ func start(t *testing.T) string {
 	if err != nil {
 		t.Fatal(err)
 	}
-	go run(o, log.New(io.Discard, "", 0))
+	go run(o, logging.Nowhere())
 	for begin := time.Now(); ; time.Sleep(20 * time.Millisecond) {
 		if answer, err := http.Get("http://" + address + "/health"); err == nil {
 			answer.Body.Close()

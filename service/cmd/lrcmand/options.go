@@ -8,7 +8,6 @@ import (
 	"fmt"
 	"hash/fnv"
 	"io"
-	"log"
 	"net"
 	"os"
 	"strings"
@@ -20,6 +19,8 @@ import (
 	"lrcman/service/internal/engine"
 	"lrcman/service/internal/engine/raftlog"
 	"lrcman/service/internal/httpapi"
+	"lrcman/service/internal/logging"
+	"lrcman/service/internal/usage"
 )
 
 // options are the words of the command line.
@@ -29,7 +30,9 @@ type options struct {
 	cert, key, clientCA                     string
 	peerCert, peerKey, peerCA               string
 	id, tick, snapshotEvery, trailing, rate uint64
-	join, trustNetwork                      bool
+	join, trustNetwork, version             bool
+	logFormat, logLevel                     string
+	logging                                 logging.Config
 	election, timeout                       time.Duration
 	self                                    engine.Member
 	first                                   []engine.Member
@@ -40,44 +43,42 @@ func parse(words []string) (*options, error) {
 	o := &options{}
 	flags := flag.NewFlagSet("lrcmand", flag.ContinueOnError)
 	flags.SetOutput(io.Discard)
-	flags.StringVar(&o.data, "data", "", "folder of this member")
-	flags.StringVar(&o.listen, "listen", "127.0.0.1:7421", "HOST:PORT for clients")
-	flags.Uint64Var(&o.id, "id", 1, "number of this member")
-	flags.StringVar(&o.members, "members", "", "the first members, alike on all of them: N=PEER/CLIENT,..")
-	flags.StringVar(&o.peer, "peer", "", "HOST:PORT for the other members")
+	flags.StringVar(&o.data, "data", "", "`DIR`: folder of this member")
+	flags.StringVar(&o.listen, "listen", "127.0.0.1:7421", "`HOST:PORT`: address for clients")
+	flags.Uint64Var(&o.id, "id", 1, "`N`: number of this member")
+	flags.StringVar(&o.members, "members", "", "`N=PEER/CLIENT,..`: the first members, alike on all of them")
+	flags.StringVar(&o.peer, "peer", "", "`HOST:PORT`: address for the other members")
 	flags.BoolVar(&o.join, "join", false, "this member was added to a group that runs")
-	flags.StringVar(&o.group, "group", "lrcmand", "members of another group are refused")
-	flags.Uint64Var(&o.tick, "tick", 600, "seconds between two ticks by the leader; 0: never")
-	flags.DurationVar(&o.election, "election", time.Second, "how long a leader may be silent")
-	flags.DurationVar(&o.timeout, "timeout", 10*time.Second, "how long a request may take")
-	flags.Uint64Var(&o.snapshotEvery, "snapshot-every", 100000, "entries between snapshots")
-	flags.Uint64Var(&o.trailing, "trailing", 5000, "entries that stay behind a snapshot")
-	flags.Uint64Var(&o.rate, "rate", 0, "requests a second from one address; 0: any number")
-	flags.StringVar(&o.tokenFile, "token-file", "", "lines of ROLE TOKEN")
-	flags.StringVar(&o.cert, "cert", "", "certificate for clients")
-	flags.StringVar(&o.key, "key", "", "its key")
-	flags.StringVar(&o.clientCA, "client-ca", "", "who signs the certificates of clients")
-	flags.StringVar(&o.peerCert, "peer-cert", "", "certificate for the other members")
-	flags.StringVar(&o.peerKey, "peer-key", "", "its key")
-	flags.StringVar(&o.peerCA, "peer-ca", "", "who signs the certificates of members")
+	flags.StringVar(&o.group, "group", "lrcmand", "`NAME`: members of another group are refused")
+	flags.Uint64Var(&o.tick, "tick", 600, "`SECONDS`: time between two ticks by the leader; 0: never")
+	flags.DurationVar(&o.election, "election", time.Second, "`DURATION`: how long a leader may be silent")
+	flags.DurationVar(&o.timeout, "timeout", 10*time.Second, "`DURATION`: how long a request may take")
+	flags.Uint64Var(&o.snapshotEvery, "snapshot-every", 100000, "`N`: entries between snapshots")
+	flags.Uint64Var(&o.trailing, "trailing", 5000, "`N`: entries that stay behind a snapshot")
+	flags.Uint64Var(&o.rate, "rate", 0, "`N`: requests a second from one address; 0: any number")
+	flags.StringVar(&o.tokenFile, "token-file", "", "`FILE`: lines of ROLE TOKEN")
+	flags.StringVar(&o.cert, "cert", "", "`FILE`: certificate for clients")
+	flags.StringVar(&o.key, "key", "", "`FILE`: its key")
+	flags.StringVar(&o.clientCA, "client-ca", "", "`FILE`: who signs the certificates of clients")
+	flags.StringVar(&o.peerCert, "peer-cert", "", "`FILE`: certificate for the other members")
+	flags.StringVar(&o.peerKey, "peer-key", "", "`FILE`: its key")
+	flags.StringVar(&o.peerCA, "peer-ca", "", "`FILE`: who signs the certificates of members")
 	flags.BoolVar(&o.trustNetwork, "trust-network", false, "allows addresses beyond loopback without tokens or certificates")
-	if err := flags.Parse(words); errors.Is(err, flag.ErrHelp) {
-		return nil, usage(flags)
+	flags.StringVar(&o.logFormat, "log-format", "text", "`FORM`: lines on standard error are text or json")
+	flags.StringVar(&o.logLevel, "log-level", "info", "`LEVEL`: the least that is written: debug, info, warn or error")
+	flags.BoolVar(&o.version, "version", false, "prints the version of the program, and ends")
+	if err := usage.Parse(flags, "LRCMAND", words); errors.Is(err, flag.ErrHelp) {
+		return nil, answer(help + usage.List(flags, groups))
 	} else if err != nil {
 		return nil, err
+	}
+	if o.version {
+		return nil, answer(about())
 	}
 	if flags.NArg() > 0 {
 		return nil, fmt.Errorf("this word is none of the options: %q", flags.Arg(0))
 	}
 	return o, o.check()
-}
-
-func usage(flags *flag.FlagSet) error {
-	var text strings.Builder
-	flags.SetOutput(&text)
-	flags.PrintDefaults()
-	list := strings.TrimRight(text.String(), "\n")
-	return errors.New("usage: lrcmand --data DIR [OPTIONS], or lrcmand ctl WORDS; docs/SERVICE.md describes them\n" + list)
 }
 
 func (o *options) check() error {
@@ -102,6 +103,9 @@ func (o *options) check() error {
 		return errors.New("--cert and --key come together, and --client-ca with both")
 	case (o.peerCert == "") != (o.peerKey == ""), (o.peerCert == "") != (o.peerCA == ""):
 		return errors.New("--peer-cert, --peer-key and --peer-ca come together")
+	}
+	if err := o.readLogging(); err != nil {
+		return err
 	}
 	if err := o.readMembers(); err != nil {
 		return err
@@ -167,6 +171,17 @@ func memberOf(text string) (engine.Member, error) {
 	return engine.Member{ID: id, Peer: peer, Client: client}, nil
 }
 
+func (o *options) readLogging() (err error) {
+	if o.logFormat != "text" && o.logFormat != "json" {
+		return fmt.Errorf("--log-format is text or json, and not %q", o.logFormat)
+	}
+	o.logging.JSON = o.logFormat == "json"
+	if o.logging.Level, err = logging.ParseLevel(o.logLevel); err != nil {
+		return fmt.Errorf("--log-level %w", err)
+	}
+	return nil
+}
+
 func (o *options) readRights() error {
 	if o.tokenFile == "" {
 		return nil
@@ -220,12 +235,12 @@ func (o *options) rates() *httpapi.Rates {
 
 func (o *options) tickTime() time.Duration { return time.Duration(o.tick) * time.Second }
 
-func (o *options) config(logger *log.Logger) raftlog.Config {
+func (o *options) config(logger *logging.Logger) raftlog.Config {
 	group := fnv.New64a()
 	group.Write([]byte(o.group)) // (never an error)
 	cfg := raftlog.Config{Dir: o.data, Group: group.Sum64(), Self: o.self, Members: o.first, Listen: o.peer,
-		Election: o.election, SnapshotEvery: o.snapshotEvery, Trailing: o.trailing, Log: logger,
-		Fatal: func(err error) { logger.Fatal(err) }}
+		Election: o.election, SnapshotEvery: o.snapshotEvery, Trailing: o.trailing, Log: logger.Std(logging.Info),
+		Fatal: func(err error) { logger.Fatal("member ends", "error", err) }}
 	if o.peerCA != "" {
 		cfg.TLS = transport.TLSInfo{CertFile: o.peerCert, KeyFile: o.peerKey, TrustedCAFile: o.peerCA, ClientCertAuth: true}
 	}

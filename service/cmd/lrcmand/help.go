@@ -1,0 +1,28 @@
+package main
+
+import "lrcman/service/internal/usage"
+
+// An answer is what the command line asks for in place of a member: it goes to standard output, and the status is 0.
+type answer string
+
+// Error is the text.
+func (a answer) Error() string { return string(a) }
+
+const help = `usage: lrcmand --data DIR [OPTIONS]         runs a member
+       lrcmand check --data DIR [OPTIONS]   judges the options and their files, and starts nothing
+       lrcmand ctl COMMAND                  asks a service and commands it; lrcmand ctl -h tells more
+
+Each option may stand in the environment too: --snapshot-every as LRCMAND_SNAPSHOT_EVERY. docs/SERVICE.md describes them.
+
+`
+
+// groups are the options as -h lists them.
+var groups = []usage.Group{
+	{Title: "Member", Names: []string{"data", "listen", "id"}},
+	{Title: "Group", Names: []string{"members", "new", "join", "peer", "peer-name", "group"}},
+	{Title: "Times", Names: []string{"tick", "election", "timeout"}},
+	{Title: "Disk and limits", Names: []string{"snapshot-every", "trailing", "disk-reserve", "rate"}},
+	{Title: "Rights and certificates", Names: []string{"token-file", "cert", "key", "client-ca", "peer-cert", "peer-key", "peer-ca",
+		"trust-network"}},
+	{Title: "What it tells", Names: []string{"log-format", "log-level", "version"}},
+}

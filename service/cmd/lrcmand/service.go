@@ -1,0 +1,181 @@
+package main
+
+import (
+	"context"
+	"crypto/tls"
+	"net"
+	"net/http"
+	"os"
+	"os/signal"
+	"syscall"
+	"time"
+
+	"lrcman/service/internal/book"
+	"lrcman/service/internal/engine"
+	"lrcman/service/internal/engine/raftlog"
+	"lrcman/service/internal/httpapi"
+	"lrcman/service/internal/logging"
+	"lrcman/service/internal/replica"
+	"lrcman/service/internal/state"
+)
+
+// A service is a member that serves clients.
+type service struct {
+	options    *options
+	log        *logging.Logger
+	engine     engine.Engine
+	api        *httpapi.API
+	monitoring *monitoring
+	gate       *gate
+	server     *http.Server
+	stop       context.CancelFunc // of the replica
+}
+
+// startService begins a member. Clients are answered from the first moment on; where it can't begin, the status is that of the process.
+func startService(o *options, logger *logging.Logger) (*service, int) {
+	if err := book.Check(); err != nil {
+		logger.Error(err.Error())
+		return nil, statusFault
+	}
+	listener, config, err := o.listener()
+	if err != nil {
+		logger.Error(err.Error())
+		return nil, statusUsage
+	}
+	port := newRelay(listener)
+	early := &http.Server{Handler: shutGate(starts), ReadTimeout: startTime, ErrorLog: logger.Std(logging.Debug)}
+	go serve(early, port.turn(), config, logger)
+	knobs := readKnobs()
+	books, cfg := state.NewWith(knobs.state), o.config(logger)
+	cfg.Knobs = knobs.raftlog
+	node, err := raftlog.Start(cfg, books)
+	if err != nil {
+		logger.Error(err.Error())
+		return nil, statusFault
+	}
+	s := newService(o, logger, node, books, knobs.replica)
+	go serve(s.server, port.last(), config, logger)
+	turnOff(early)
+	logger.Info("member serves", "member", o.id, "listen", o.listen, "rules", books.Rules(), "version", version, "commit", commit)
+	s.notify("READY=1")
+	return s, 0
+}
+
+// turnOff ends a server; what it answers takes no time.
+func turnOff(early *http.Server) {
+	ctx, cancel := context.WithTimeout(context.Background(), time.Second)
+	defer cancel()
+	if early.Shutdown(ctx) != nil {
+		early.Close() // (somebody has connected, and asks nothing)
+	}
+}
+
+// startTime is how long a client may take to ask a member that starts.
+const startTime = 5 * time.Second
+
+func shutGate(why *reason) *gate {
+	g := &gate{}
+	g.shut.Store(why)
+	return g
+}
+
+func newService(o *options, logger *logging.Logger, node engine.Engine, books *state.State, knobs replica.Knobs) *service {
+	s := &service{options: o, log: logger, engine: node}
+	r := replica.New(replica.Config{Engine: node, State: books, Timeout: o.timeout, Tick: o.tickTime(), Log: logger.Std(logging.Info),
+		Knobs: knobs})
+	s.monitoring = newMonitoring(node, books, o.data)
+	s.api = httpapi.New(httpapi.Config{Engine: node, State: books, Replica: r, Rights: o.rights, Rates: o.rates(), Timeout: o.timeout,
+		Mounts: s.monitoring.mounts(), Observe: s.monitoring.metrics.Observe})
+	s.gate, s.server = &gate{next: s.api}, s.api.Server()
+	s.server.Handler = s.gate
+	ctx, stop := context.WithCancel(context.Background())
+	s.stop = stop
+	go r.Run(ctx)
+	return s
+}
+
+func (s *service) notify(state string) {
+	if err := notify(state); err != nil {
+		s.log.Warn("systemd was not told", "state", state, "error", err)
+	}
+}
+
+func serve(server *http.Server, listener net.Listener, config *tls.Config, logger *logging.Logger) {
+	var err error
+	if config == nil {
+		err = server.Serve(listener)
+	} else {
+		// (with HTTP/2 requests would share a connection, and so its deadlines)
+		server.TLSConfig, server.TLSNextProto = config, map[string]func(*http.Server, *tls.Conn, http.Handler){}
+		err = server.ServeTLS(listener, "", "")
+	}
+	if err != http.ErrServerClosed {
+		logger.Fatal("the port for clients fails", "error", err)
+	}
+}
+
+// wait returns when the member has ended, with the status of the process.
+func (s *service) wait() int {
+	signals := make(chan os.Signal, 2)
+	signal.Notify(signals, syscall.SIGTERM, os.Interrupt)
+	defer signal.Stop(signals)
+	status := 0
+	select {
+	case sent := <-signals:
+		go func() {
+			s.log.Fatal("a second signal ends this member at once", "signal", <-signals)
+		}()
+		s.log.Info("member ends", "signal", sent)
+		s.drain()
+	case <-s.engine.Done():
+		status = s.whyEnded()
+	}
+	s.close()
+	return status
+}
+
+func (s *service) whyEnded() int {
+	err := s.engine.Err()
+	s.log.Error("member ends", "error", err)
+	if err == engine.ErrRemoved {
+		return statusRemoved
+	}
+	return statusFault
+}
+
+// drain ends what clients and members do with this one, so that they notice as little as may be: nothing new is taken, what is under
+// way is answered, and only then another member leads.
+func (s *service) drain() {
+	s.notify("STOPPING=1")
+	s.gate.shut.Store(ends)
+	s.api.Close()
+	s.monitoring.stop()
+	s.gate.quiet(s.options.election)
+	s.leadAway()
+	ctx, cancel := context.WithTimeout(context.Background(), s.options.timeout)
+	defer cancel()
+	if err := s.server.Shutdown(ctx); err != nil {
+		s.log.Warn("requests under way are cut", "error", err)
+	}
+}
+
+func (s *service) leadAway() {
+	before := s.engine.Status()
+	if before.Leader != before.ID {
+		return
+	}
+	ctx, cancel := context.WithTimeout(context.Background(), 2*s.options.election)
+	defer cancel()
+	if err := s.engine.LeadAway(ctx); err == nil {
+		s.log.Info("another member leads", "leader", s.engine.Status().Leader)
+	} else if len(before.Members) > 1 {
+		s.log.Warn("the lead was not handed over", "error", err)
+	}
+}
+
+// close ends all at once, whatever is under way.
+func (s *service) close() {
+	s.stop()
+	s.server.Close()
+	s.engine.Close()
+}
