@@ -36,6 +36,13 @@ const (
 	Sessions        = C.LRC_SESSIONS
 )
 
+// The greatest numbers of a book that has an image, and can forget its entries. lrc_embed_forget has them.
+const (
+	MostEntries = 1 << 63
+	MostTicks   = 4293967291
+	MostGrants  = 4293967294 // of one fragment
+)
+
 // The layouts are those of the header; the library's agree with it, which the C compiler has checked.
 const (
 	_ = uint(unsafe.Sizeof(Command{}) - C.sizeof_lrc_command)
@@ -300,6 +307,9 @@ func (b *Book) Entries(place uint64, rows []Entry) (int, error) {
 	status := C.lrc_embed_entries(b.handle, C.uint64_t(place), first, C.size_t(len(rows)), &count)
 	return int(count), faultOf(status)
 }
+
+// IsFull tells whether an error says that a number of the book is at its end.
+func IsFull(err error) bool { return is(err, C.LRC_FULL) }
 
 // IsOutOfRange tells whether an error says that a number is out of its range.
 func IsOutOfRange(err error) bool { return is(err, C.LRC_OUT_OF_RANGE) }

@@ -13,11 +13,17 @@ type Machine interface {
 	// Apply makes the changes of an entry, and returns what the proposer of this member is told. Indexes rise. After an
 	// error the engine ends: this member is not what the others are.
 	Apply(index uint64, payload []byte) (interface{}, error)
+	// Check tells why a payload is no entry that this program can read. It is asked before one is proposed, whoever brings it, and
+	// may be called beside the other methods.
+	Check(payload []byte) error
 	// Freeze returns a function that writes the state, or a later one. It may run beside Apply.
 	Freeze() func(io.Writer) error
 	// Restore begins in what such a function wrote. After an error the machine is as it was. The error wraps ErrDamaged if
 	// the bytes are not those that were written.
 	Restore(io.Reader) error
+	// Verify reads what such a function wrote to its end, and changes nothing. The error wraps ErrDamaged if the bytes are not
+	// those that were written. It may run beside the other methods.
+	Verify(io.Reader) error
 }
 
 // MostID is the greatest number of a member. (Numbers of proposals have 16 bits for it)

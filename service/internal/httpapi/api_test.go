@@ -66,7 +66,7 @@ func newService(t *testing.T, change func(*setup)) *service {
 	server.Start()
 	t.Cleanup(func() { stop(); a.Close(); server.CloseClientConnections(); server.Close() })
 	s := &service{t, e, books, a, server.URL}
-	s.expect("PUT", "/books/p0", nodes(4), 200, `{"n":0,"opens":1}`)
+	s.expect("PUT", "/books/p0", nodes(4), 200, `{"n":0,"opens":1024}`)
 	return s
 }
 
@@ -135,21 +135,21 @@ func (s *service) call(line string) {
 func TestACallIsAnsweredInWordsAndNumbers(t *testing.T) {
 	s := newService(t, nil)
 	for _, it := range []struct{ body, want string }{
-		{`{"command":"place6 1"}`, `{"n":1,"opens":1,"reply":"placed 0:0 1:0 2:0 3:0 4:0 5:0 6:0 7:0 8:0 9:0","kind":"placed","seats":[{"node":0,"slot":0},` +
+		{`{"command":"place6 1"}`, `{"n":1,"opens":1024,"reply":"placed 0:0 1:0 2:0 3:0 4:0 5:0 6:0 7:0 8:0 9:0","kind":"placed","seats":[{"node":0,"slot":0},` +
 			`{"node":1,"slot":0},{"node":2,"slot":0},{"node":3,"slot":0},{"node":4,"slot":0},{"node":5,"slot":0},{"node":6,"slot":0},` +
 			`{"node":7,"slot":0},{"node":8,"slot":0},{"node":9,"slot":0}]}`},
-		{`{"command":"fail 1"}`, `{"n":2,"opens":1,"reply":"changed","kind":"changed"}`},
-		{`{"session":3,"command":"lease 1 1","key":"k","worker":"w"}`, `{"n":3,"opens":1,"reply":"granted 1 1 11:0 epoch 1 local 0 2 6","kind":"granted",` +
+		{`{"command":"fail 1"}`, `{"n":2,"opens":1024,"reply":"changed","kind":"changed"}`},
+		{`{"session":3,"command":"lease 1 1","key":"k","worker":"w"}`, `{"n":3,"opens":1024,"reply":"granted 1 1 11:0 epoch 1 local 0 2 6","kind":"granted",` +
 			`"stripe":1,"fragment":1,"target":{"node":11,"slot":0},"epoch":1,"repair":"local","sources":[0,2,6]}`},
-		{`{"session":3,"command":"lease 1 1","key":"k","worker":"w"}`, `{"n":3,"opens":1,"reply":"granted 1 1 11:0 epoch 1 local 0 2 6","kind":"granted",` +
+		{`{"session":3,"command":"lease 1 1","key":"k","worker":"w"}`, `{"n":3,"opens":1024,"reply":"granted 1 1 11:0 epoch 1 local 0 2 6","kind":"granted",` +
 			`"stripe":1,"fragment":1,"target":{"node":11,"slot":0},"epoch":1,"repair":"local","sources":[0,2,6],"again":true}`},
-		{`{"command":"lease 1 1"}`, `{"n":4,"opens":1,"reply":"refused 110 1","kind":"refused","refusal":110,"name":"already leased","detail":1}`},
-		{`{"session":3,"command":"done 1 1 1"}`, `{"opens":1,"reply":"refused 114 3","kind":"refused","refusal":114,"name":"not holder","detail":3,"holder":"w"}`},
-		{`{"command":"tick"}`, `{"n":5,"opens":1,"reply":"ticked 1 0","kind":"ticked","clock":1,"ended":0}`},
-		{`{"session":3,"command":"done 1 1 1","worker":"w"}`, `{"n":6,"opens":1,"reply":"ended","kind":"ended"}`},
-		{`{"command":"next"}`, `{"n":7,"opens":1,"reply":"idle","kind":"idle"}`},
-		{`{"command":"lease 1 0"}`, `{"n":8,"opens":1,"reply":"refused 111","kind":"refused","refusal":111,"name":"not needed"}`},
-		{`{"command":"drop 1","at":8,"opens":1}`, `{"n":9,"opens":1,"reply":"dropped","kind":"dropped"}`},
+		{`{"command":"lease 1 1"}`, `{"n":4,"opens":1024,"reply":"refused 110 1","kind":"refused","refusal":110,"name":"already leased","detail":1}`},
+		{`{"session":3,"command":"done 1 1 1"}`, `{"opens":1024,"reply":"refused 114 3","kind":"refused","refusal":114,"name":"not holder","detail":3,"holder":"w"}`},
+		{`{"command":"tick"}`, `{"n":5,"opens":1024,"reply":"ticked 1 0","kind":"ticked","clock":1,"ended":0}`},
+		{`{"session":3,"command":"done 1 1 1","worker":"w"}`, `{"n":6,"opens":1024,"reply":"ended","kind":"ended"}`},
+		{`{"command":"next"}`, `{"n":7,"opens":1024,"reply":"idle","kind":"idle"}`},
+		{`{"command":"lease 1 0"}`, `{"n":8,"opens":1024,"reply":"refused 111","kind":"refused","refusal":111,"name":"not needed"}`},
+		{`{"command":"drop 1","at":8,"opens":1024}`, `{"n":9,"opens":1024,"reply":"dropped","kind":"dropped"}`},
 	} {
 		s.expect("POST", "/books/p0/call", it.body, 200, it.want)
 	}
@@ -177,10 +177,10 @@ func TestBadRequestsAreRefusedByName(t *testing.T) {
 		{"DELETE", "/books/p0", "", 415, "has to be application/json"},
 		{"DELETE", "/books/p0", `{}`, 400, `the fields "at" and "opens" are needed`},
 		{"DELETE", "/books/p0", `{"at":0}`, 400, `the fields "at" and "opens" are needed`},
-		{"DELETE", "/books/p0", `{"at":0,"opens":1,"force":true}`, 400, `there is no field "force"`},
-		{"DELETE", "/books/p0", `{"at":1,"opens":1}`, 409, "the book stands at 0, opened 1 times"},
-		{"DELETE", "/books/p0", `{"at":0,"opens":2}`, 409, "the book stands at 0, opened 1 times"},
-		{"DELETE", "/books/p9", `{"at":0,"opens":1}`, 404, "there is no book p9"},
+		{"DELETE", "/books/p0", `{"at":0,"opens":1024,"force":true}`, 400, `there is no field "force"`},
+		{"DELETE", "/books/p0", `{"at":1,"opens":1024}`, 409, "the book stands at 0, and its opening is 1024"},
+		{"DELETE", "/books/p0", `{"at":0,"opens":2}`, 409, "the book stands at 0, and its opening is 1024"},
+		{"DELETE", "/books/p9", `{"at":0,"opens":1024}`, 404, "there is no book p9"},
 		{"POST", "/leader/0", "", 400, "the number of a member"},
 		{"POST", "/leader/2", "", 503, "the member does not lead yet"},
 		{"GET", "/leader/1", "", 405, "this takes POST"},
@@ -206,7 +206,7 @@ func TestBadRequestsAreRefusedByName(t *testing.T) {
 		{"POST", "/books/p0/call", `{"command":"place"}`, 400, "place takes another number of words"},
 		{"POST", "/books/p0/call", `{"command":"place 4096"}`, 400, "the stripe is out of its range, 0 to 4095: 4096"},
 		{"POST", "/books/p0/call", `{"command":"place 01"}`, 400, "the stripe is not a number"},
-		{"POST", "/books/p0/call", `{"command":"tick","at":1,"opens":1}`, 409, "the book stands at 0, opened 1 times"},
+		{"POST", "/books/p0/call", `{"command":"tick","at":1,"opens":1024}`, 409, "the book stands at 0, and its opening is 1024"},
 		{"POST", "/books/p0/call?now=1", `{"command":"tick"}`, 400, `there is no parameter "now" here`},
 		{"POST", "/books/p0/call", `{"command":"` + strings.Repeat("x", 4096) + `"}`, 413, "more than 4096 bytes"},
 		{"PUT", "/books/p0", nodes(5), 409, "made with other nodes"},
@@ -264,7 +264,7 @@ func TestBodiesHaveATypeAndALength(t *testing.T) {
 	s.refused("POST", "/books/p0/call", tick, 415, "no Content-Encoding", header("Content-Encoding", "gzip"))
 	s.refused("PUT", "/books/p1", nodes(4), 415, "application/toml", header("Content-Type", "application/xml"))
 	s.refused("POST", "/books/p0/call", tick, 411, "no length", func(r *http.Request) { r.ContentLength = -1; r.Body = io.NopCloser(strings.NewReader(tick)) })
-	s.expect("POST", "/books/p0/call", tick, 200, `{"n":1,"opens":1,"reply":"ticked 1 0","kind":"ticked","clock":1,"ended":0}`,
+	s.expect("POST", "/books/p0/call", tick, 200, `{"n":1,"opens":1024,"reply":"ticked 1 0","kind":"ticked","clock":1,"ended":0}`,
 		header("Content-Type", "application/json; charset=UTF-8"))
 	answer, text := s.ask("POST", "/books", "")
 	if answer.Header.Get("Allow") != "GET" {
@@ -329,10 +329,10 @@ func TestALookTellsHowNewItIs(t *testing.T) {
 	if err := json.Unmarshal([]byte(text), &look); err != nil {
 		t.Fatal(err)
 	}
-	if look.N != 1 || look.Opens != 1 || look.Index != 2 || look.Age < 0 || look.Age > 60000 || len(look.Rows) != 1 {
+	if look.N != 1 || look.Opens != 1024 || look.Index != 2 || look.Age < 0 || look.Age > 60000 || len(look.Rows) != 1 {
 		t.Error(text)
 	}
-	for name, want := range map[string]string{"Lrcmand-Entries": "1", "Lrcmand-Opens": "1", "Lrcmand-Index": "2", "Lrcmand-Age-Ms": fmt.Sprint(look.Age)} {
+	for name, want := range map[string]string{"Lrcmand-Entries": "1", "Lrcmand-Opens": "1024", "Lrcmand-Index": "2", "Lrcmand-Age-Ms": fmt.Sprint(look.Age)} {
 		if have := answer.Header.Get(name); have != want {
 			t.Errorf("%s: %s and not %s", name, have, want)
 		}
@@ -413,16 +413,16 @@ func TestABookBeginsInAnImage(t *testing.T) {
 	if err != nil {
 		t.Fatal(err)
 	}
-	s.expect("PUT", "/books/p1", string(body), 200, `{"n":1,"opens":1}`)
-	s.expect("PUT", "/books/p1", string(body), 200, `{"n":0,"opens":1,"again":true}`)
+	s.expect("PUT", "/books/p1", string(body), 200, `{"n":1,"opens":3072}`)
+	s.expect("PUT", "/books/p1", string(body), 200, `{"n":1,"opens":3072,"again":true}`)
 	_, again := s.ask("GET", "/books/p1/image", "")
 	if again != image {
 		t.Error(again)
 	}
-	s.expect("PUT", "/books/p1/nodes", nodes(5), 200, `{"n":1,"opens":2}`)
+	s.expect("PUT", "/books/p1/nodes", nodes(5), 200, `{"n":1,"opens":5120}`)
 	s.refused("GET", "/books/p1/log?from=0", "", 410, "the entries up to number 1 are forgotten")
 	_, text := s.ask("GET", "/books", "")
-	if !strings.Contains(text, `"books":[{"name":"p0","n":1,"opens":1},{"name":"p1","n":1,"opens":2}]`) {
+	if !strings.Contains(text, `"books":[{"name":"p0","n":1,"opens":1024},{"name":"p1","n":1,"opens":5120}]`) {
 		t.Error(text)
 	}
 }
@@ -513,7 +513,7 @@ func TestRolesAllowWhatThePageSays(t *testing.T) {
 		{"PUT", "/books/p0/nodes", nodes(5), 403, 403, 200},
 		{"PUT", "/members/2", `{"peer":"h:1","client":"h:2"}`, 403, 403, 200},
 		{"DELETE", "/members/2", "", 403, 403, 504},
-		{"DELETE", "/books/p1", `{"at":0,"opens":1}`, 403, 403, 200},
+		{"DELETE", "/books/p1", `{"at":0,"opens":20480}`, 403, 403, 200},
 		{"POST", "/leader/1", "", 403, 403, 200},
 		{"POST", "/snapshot", "", 403, 403, 503},
 	} {
@@ -549,14 +549,14 @@ func TestNobodyKnowsIsToldOrTriedAgain(t *testing.T) {
 		})
 	}
 	lost(2, true, engine.ErrOutcomeUnknown) // it was made, and the word of it is lost: with a key it is asked for again
-	s.expect("POST", "/books/p0/call", `{"command":"tick","key":"a"}`, 200, `{"n":1,"opens":1,"reply":"ticked 1 0","kind":"ticked","clock":1,"ended":0,"again":true}`)
+	s.expect("POST", "/books/p0/call", `{"command":"tick","key":"a"}`, 200, `{"n":1,"opens":1024,"reply":"ticked 1 0","kind":"ticked","clock":1,"ended":0,"again":true}`)
 	lost(2, false, engine.ErrOutcomeUnknown)
-	s.expect("POST", "/books/p0/call", `{"command":"tick","key":"b"}`, 200, `{"n":2,"opens":1,"reply":"ticked 2 0","kind":"ticked","clock":2,"ended":0}`)
+	s.expect("POST", "/books/p0/call", `{"command":"tick","key":"b"}`, 200, `{"n":2,"opens":1024,"reply":"ticked 2 0","kind":"ticked","clock":2,"ended":0}`)
 	lost(1, true, engine.ErrOutcomeUnknown) // without a key its caller is told that nobody knows
 	s.expect("POST", "/books/p0/call", `{"command":"tick"}`, 504, `{"status":504,"code":"outcome_unknown","error":"nobody knows whether it was made","maybe":true}`)
-	s.expect("POST", "/books/p0/call", `{"command":"tick"}`, 200, `{"n":4,"opens":1,"reply":"ticked 4 0","kind":"ticked","clock":4,"ended":0}`)
+	s.expect("POST", "/books/p0/call", `{"command":"tick"}`, 200, `{"n":4,"opens":1024,"reply":"ticked 4 0","kind":"ticked","clock":4,"ended":0}`)
 	lost(2, false, engine.ErrNoLeader) // nothing was made: it is tried again in any case
-	s.expect("POST", "/books/p0/call", `{"command":"tick"}`, 200, `{"n":5,"opens":1,"reply":"ticked 5 0","kind":"ticked","clock":5,"ended":0}`)
+	s.expect("POST", "/books/p0/call", `{"command":"tick"}`, 200, `{"n":5,"opens":1024,"reply":"ticked 5 0","kind":"ticked","clock":5,"ended":0}`)
 	lost(1000000, false, engine.ErrNoLeader)
 	s.refused("POST", "/books/p0/call", `{"command":"tick"}`, 503, "there is no leader")
 
@@ -576,22 +576,22 @@ func TestABookIsRemoved(t *testing.T) {
 	s := newService(t, nil)
 	s.call("tick")
 	s.expect("POST", "/books/p0/call", `{"command":"tick","key":"k"}`, 200,
-		`{"n":2,"opens":1,"reply":"ticked 2 0","kind":"ticked","clock":2,"ended":0}`)
+		`{"n":2,"opens":1024,"reply":"ticked 2 0","kind":"ticked","clock":2,"ended":0}`)
 	next, end := s.lines("/books/p0/log?follow=1&from=1")
 	defer end()
 	if entry := next(); entry.Made != 2 {
 		t.Errorf("%+v", entry)
 	}
-	s.refused("DELETE", "/books/p0", `{"at":1,"opens":1}`, 409, "the book stands at 2")
-	s.expect("DELETE", "/books/p0", `{"at":2,"opens":1}`, 200, `{"n":2,"opens":1}`)
+	s.refused("DELETE", "/books/p0", `{"at":1,"opens":1024}`, 409, "the book stands at 2")
+	s.expect("DELETE", "/books/p0", `{"at":2,"opens":1024}`, 200, `{"n":2,"opens":1024}`)
 	if entry := next(); entry.Made != 0 || entry.Command != "" {
 		t.Errorf("the stream goes on: %+v", entry)
 	}
 	s.refused("GET", "/books/p0", "", 404, "there is no such book")
-	s.refused("DELETE", "/books/p0", `{"at":2,"opens":1}`, 404, "there is no book p0")
-	s.expect("PUT", "/books/p0", nodes(5), 200, `{"n":0,"opens":1}`) // other nodes: nothing of the old one is left
+	s.refused("DELETE", "/books/p0", `{"at":2,"opens":1024}`, 404, "there is no book p0")
+	s.expect("PUT", "/books/p0", nodes(5), 200, `{"n":0,"opens":7168}`) // other nodes: nothing of the old one is left
 	s.expect("POST", "/books/p0/call", `{"command":"tick","key":"k"}`, 200,
-		`{"n":1,"opens":1,"reply":"ticked 1 0","kind":"ticked","clock":1,"ended":0}`)
+		`{"n":1,"opens":7168,"reply":"ticked 1 0","kind":"ticked","clock":1,"ended":0}`)
 }
 
 func TestNoStreamGoesOnInABookOfTheSameName(t *testing.T) {
@@ -605,8 +605,8 @@ func TestNoStreamGoesOnInABookOfTheSameName(t *testing.T) {
 	if _, err := l.follow("p0", before, 1); err != nil {
 		t.Error(err)
 	}
-	s.expect("DELETE", "/books/p0", `{"at":1,"opens":1}`, 200, `{"n":1,"opens":1}`)
-	s.expect("PUT", "/books/p0", nodes(5), 200, `{"n":0,"opens":1}`)
+	s.expect("DELETE", "/books/p0", `{"at":1,"opens":1024}`, 200, `{"n":1,"opens":1024}`)
+	s.expect("PUT", "/books/p0", nodes(5), 200, `{"n":0,"opens":4096}`)
 	if _, err := l.follow("p0", before, 1); err != state.ErrNoBook {
 		t.Error(err)
 	}
@@ -632,7 +632,7 @@ func TestVersionAndMembers(t *testing.T) {
 	s.expect("PUT", "/members/8?force=1", `{"peer":"k:1","client":"k:2"}`, 200, `{"members":[{"id":1,"peer":"h:1","client":"h:2","leader":true},`+
 		strings.Replace(again, `],"again":true}`, `,{"id":8,"peer":"k:1","client":"k:2","leader":false}]}`, 1))
 	_, text := s.ask("GET", "/version", "")
-	if !strings.HasPrefix(text, fmt.Sprintf(`{"service":1,"form":1,"interface":%d,"rules":%d,"go":"go1`, book.Interface(), book.Rules())) {
+	if !strings.HasPrefix(text, fmt.Sprintf(`{"service":1,"form":2,"interface":%d,"rules":%d,"go":"go1`, book.Interface(), book.Rules())) {
 		t.Error(text)
 	}
 	_, text = s.ask("GET", "/status", "")

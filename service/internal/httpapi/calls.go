@@ -31,10 +31,13 @@ var rejections = map[state.Rejection]struct {
 	state.TooManyBooks: {http.StatusConflict, "too_many_books"},
 	state.BadText:      {http.StatusUnprocessableEntity, "bad_text"},
 	state.KeyReused:    {http.StatusConflict, "key_reused"},
+	state.KeyForgotten: {http.StatusConflict, "key_forgotten"},
 	state.Moved:        {http.StatusConflict, "moved"},
 	state.OutOfRange:   {http.StatusBadRequest, "out_of_range"},
 	state.OtherRules:   {http.StatusServiceUnavailable, "other_rules"},
 	state.NotChanged:   {http.StatusConflict, "not_changed"},
+	state.Spent:        {http.StatusConflict, "spent"},
+	state.Unreadable:   {http.StatusBadRequest, "unreadable"},
 }
 
 // A bookResponse is the answer to one who made a book, or began it over other nodes.

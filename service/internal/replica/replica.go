@@ -72,6 +72,9 @@ func (p *pending) take() bool { return atomic.CompareAndSwapInt32(&p.isLeft, 0, 
 
 // Do brings an item into the log and returns its answer. The error is ErrFull or engine.ErrNoLeader if nothing was proposed.
 func (r *Replica) Do(ctx context.Context, item *state.Item) (state.Answer, error) {
+	if item.Key != "" && item.Since == 0 {
+		item.Since = r.cfg.Engine.Status().Applied
+	}
 	p := &pending{item: item, done: make(chan struct{})}
 	select {
 	case r.queue <- p:

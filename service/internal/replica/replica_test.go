@@ -235,7 +235,7 @@ func TestAnItemIsProposedAgainWhereItIsMadeOnce(t *testing.T) {
 func TestARemovalIsNotTriedAgain(t *testing.T) {
 	m := newMember(t, nil).run()
 	proposals := m.lost(1000, true, engine.ErrOutcomeUnknown)
-	_, err := m.replica.Do(context.Background(), &state.Item{Action: state.Remove, Book: "p0", At: &state.Position{Made: 0, Opens: 1}})
+	_, err := m.replica.Do(context.Background(), &state.Item{Action: state.Remove, Book: "p0", At: &state.Position{Made: 0, Opens: 1024}})
 	if err != engine.ErrOutcomeUnknown || *proposals != 1 {
 		t.Errorf("%v, and it was proposed %d times", err, *proposals)
 	}

@@ -3,187 +3,244 @@ package state
 import (
 	"bufio"
 	"crypto/sha256"
-	"encoding/binary"
 	"errors"
 	"fmt"
 	"hash/crc32"
 	"io"
 	"sort"
-	"unsafe"
+	"strings"
+	"sync"
 
 	"lrcman/service/internal/book"
 	"lrcman/service/internal/engine"
 )
 
-const magic = "lrcmand books 1\n"
+// A snapshot is this line and then records: a head, the books by name, and an end. Each record is its length, its checksum, which
+// covers the length, and its fields, of which the first is its kind.
+const (
+	magicMark = "lrcmand books "
+	magic     = magicMark + "2\n"
+)
+
+const (
+	headRecord = 1
+	bookRecord = 2
+	endRecord  = 3
+)
 
 // A book's record has its nodes, its image and its keys; this is far more than they take.
 const mostRecord = 1 << 28
 
 var table = crc32.MakeTable(crc32.Castagnoli)
 
-func checksum(texts ...[]byte) []byte {
+func checksum(texts ...[]byte) (sum [32]byte) {
 	hash := sha256.New()
 	for _, text := range texts {
-		hash.Write(appendBytes(nil, text))
+		hash.Write(little.AppendUint32(nil, uint32(len(text))))
+		hash.Write(text)
 	}
-	return hash.Sum(nil)
+	copy(sum[:], hash.Sum(nil))
+	return sum
 }
+
+func clone(text []byte) []byte { return append([]byte(nil), text...) }
+
+// A freeze is a snapshot that is being written: the state without books as it was when the snapshot was begun, and each book as
+// it is later, when its image is taken, but before it is opened again or removed.
+type freeze struct {
+	head  []byte
+	books []*bookEntry // by name
+
+	mu    sync.Mutex
+	left  map[*bookEntry]bool // those of which no record was taken yet
+	early map[*bookEntry]early
+}
+
+// An early is a record that was taken before a change of its book.
+type early struct {
+	record []byte
+	err    error
+}
+
+// mostFreezes are written at once. One more ends the oldest: it may be one that nobody writes any more.
+const mostFreezes = 4
 
 // Freeze returns a function that writes the books of now, beside later calls. It holds up a book only while it takes the image
-// of that one. So an image may be newer than the index of its snapshot: it has an index of its own, and Apply passes over the
-// entries that it has.
-//
-// A book that is removed before its image is taken stands in the snapshot as one that is gone, with the index of that entry.
+// of that one. So a book may be newer than the index of its snapshot: it has a stamp of its own, and Apply passes over the items
+// that it has.
 func (s *State) Freeze() func(io.Writer) error {
-	all, change := s.frozen(), s.Change()
-	return func(to io.Writer) error { return s.save(to, all, change) }
-}
-
-// A frozen is a book as a snapshot is to have it: one that is there, or the entry that removed it.
-type frozen struct {
-	name      string
-	bookEntry *bookEntry
-	ended     uint64
-}
-
-// frozen are the books of now, by name.
-func (s *State) frozen() []frozen {
-	s.entry.Lock()
-	defer s.entry.Unlock()
-	s.mu.RLock()
-	defer s.mu.RUnlock()
-	var all []frozen
-	for name, e := range s.books {
-		all = append(all, frozen{name: name, bookEntry: e})
+	s.mu.Lock()
+	defer s.mu.Unlock()
+	f := &freeze{left: map[*bookEntry]bool{}, early: map[*bookEntry]early{}}
+	for _, e := range s.books {
+		f.books = append(f.books, e)
+		f.left[e] = true
 	}
-	for name, ended := range s.ended {
-		if ended > s.index {
-			all = append(all, frozen{name: name, ended: ended})
+	sort.Slice(f.books, func(i, j int) bool { return f.books[i].name < f.books[j].name })
+	f.head = s.recordOfHead()
+	if len(s.freezes) == mostFreezes {
+		s.freezes[0].giveUp()
+		s.freezes = s.freezes[1:]
+	}
+	s.freezes = append(s.freezes[:len(s.freezes):len(s.freezes)], f)
+	return func(to io.Writer) error {
+		defer s.thaw(f)
+		return f.write(to)
+	}
+}
+
+func (s *State) thaw(f *freeze) {
+	s.mu.Lock()
+	defer s.mu.Unlock()
+	var others []*freeze
+	for _, it := range s.freezes {
+		if it != f {
+			others = append(others, it)
 		}
 	}
-	sort.Slice(all, func(i, j int) bool { return all[i].name < all[j].name })
-	return all
+	s.freezes = others
 }
 
-var errReplaced = errors.New("a snapshot of the leader came meanwhile")
+// recordFirst takes the records of a book that is about to be changed. The lock of the book is held.
+func (s *State) recordFirst(e *bookEntry) {
+	s.mu.RLock()
+	freezes := s.freezes
+	s.mu.RUnlock()
+	for _, f := range freezes {
+		f.recordFirst(e)
+	}
+}
 
-func (s *State) save(to io.Writer, all []frozen, change Change) error {
-	s.write.Lock()
-	defer s.write.Unlock()
+func (f *freeze) recordFirst(e *bookEntry) {
+	f.mu.Lock()
+	defer f.mu.Unlock()
+	if f.left[e] {
+		delete(f.left, e)
+		record, err := e.record()
+		f.early[e] = early{record, err}
+	}
+}
+
+var errReplaced = errors.New("another snapshot took its place")
+
+// giveUp ends a snapshot that is still to be written.
+func (f *freeze) giveUp() {
+	f.mu.Lock()
+	defer f.mu.Unlock()
+	for e := range f.left {
+		f.early[e] = early{nil, errReplaced}
+	}
+	f.left = map[*bookEntry]bool{}
+}
+
+// record is the record of a book, of now or from before it was changed.
+func (f *freeze) record(e *bookEntry) ([]byte, error) {
+	e.mu.Lock()
+	defer e.mu.Unlock()
+	f.mu.Lock()
+	defer f.mu.Unlock()
+	if it, isThere := f.early[e]; isThere {
+		delete(f.early, e)
+		return it.record, it.err
+	}
+	delete(f.left, e)
+	return e.record()
+}
+
+func (f *freeze) write(to io.Writer) error {
 	w := bufio.NewWriterSize(to, 1<<18)
 	if _, err := w.WriteString(magic); err != nil {
 		return err
 	}
-	var head []byte
-	for _, number := range []uint64{uint64(change.Rules), uint64(change.Next), change.Asked, uint64(len(all))} {
-		head = binary.AppendUvarint(head, number)
-	}
-	if err := writeRecord(w, head); err != nil {
+	if err := writeRecord(w, f.head); err != nil {
 		return err
 	}
-	for _, it := range all {
-		record, err := s.record(it)
+	for _, e := range f.books {
+		record, err := f.record(e)
 		if err != nil {
-			return fmt.Errorf("book %s: %w", it.name, err)
+			return fmt.Errorf("book %s: %w", e.name, err)
 		}
 		if err := writeRecord(w, record); err != nil {
-			return err
+			return fmt.Errorf("book %s: %w", e.name, err)
 		}
+	}
+	if err := writeRecord(w, little.AppendUint32([]byte{endRecord}, uint32(len(f.books)))); err != nil {
+		return err
 	}
 	return w.Flush()
 }
 
+// sumOf is the checksum of a record, and of its length.
+func sumOf(length, record []byte) uint32 {
+	return crc32.Update(crc32.Checksum(length, table), table, record)
+}
+
 func writeRecord(w io.Writer, record []byte) error {
-	var head [8]byte
-	binary.LittleEndian.PutUint32(head[:], uint32(len(record)))
-	binary.LittleEndian.PutUint32(head[4:], crc32.Checksum(record, table))
-	if _, err := w.Write(head[:]); err != nil {
+	if len(record) > mostRecord {
+		return fmt.Errorf("a record has %d bytes, and may have %d", len(record), mostRecord)
+	}
+	length := little.AppendUint32(nil, uint32(len(record)))
+	if _, err := w.Write(little.AppendUint32(length, sumOf(length, record))); err != nil {
 		return err
 	}
 	_, err := w.Write(record)
 	return err
 }
 
-func readRecord(r io.Reader) (*reader, error) {
-	var head [8]byte
-	if _, err := io.ReadFull(r, head[:]); err != nil {
-		return nil, damaged(err)
-	}
-	length := binary.LittleEndian.Uint32(head[:])
-	if length > mostRecord {
-		return nil, damaged(errDamaged)
-	}
-	record := make([]byte, length)
-	if _, err := io.ReadFull(r, record); err != nil {
-		return nil, damaged(err)
-	}
-	if crc32.Checksum(record, table) != binary.LittleEndian.Uint32(head[4:]) {
-		return nil, damaged(errDamaged)
-	}
-	return &reader{rest: record}, nil
-}
-
 func damaged(why error) error { return fmt.Errorf("%w: %v", engine.ErrDamaged, why) }
 
-// record is a book as a snapshot has it. No entry is applied meanwhile.
-func (s *State) record(it frozen) ([]byte, error) {
-	s.entry.Lock()
-	defer s.entry.Unlock()
-	e := it.bookEntry
-	if e == nil {
-		return recordOfEnded(it.name, it.ended), nil
+// readRecord reads a record of a kind.
+func readRecord(from io.Reader, kind uint8) (*reader, error) {
+	var start [8]byte
+	if _, err := io.ReadFull(from, start[:]); err != nil {
+		return nil, damaged(err)
 	}
-	e.mu.Lock()
-	defer e.mu.Unlock()
-	if e.ended > 0 {
-		return recordOfEnded(it.name, e.ended), nil
-	} else if e.book == nil {
+	length := little.Uint32(start[:4])
+	if length > mostRecord {
+		return nil, damaged(errors.New("a record is too long"))
+	}
+	record, err := io.ReadAll(io.LimitReader(from, int64(length))) // (which takes memory for what is there)
+	if err != nil {
+		return nil, damaged(err)
+	}
+	r := &reader{rest: record}
+	if uint32(len(record)) != length || sumOf(start[:4], record) != little.Uint32(start[4:]) || r.u8() != kind {
+		return nil, damaged(errors.New("a record is not as it was written"))
+	}
+	return r, nil
+}
+
+// recordOfHead is the state without its books.
+func (s *State) recordOfHead() []byte {
+	b := little.AppendUint64([]byte{headRecord}, s.index)
+	b = appendVersion(appendVersion(b, s.group.now), s.group.next)
+	b = little.AppendUint64(b, s.group.asked)
+	b = little.AppendUint32(b, uint32(len(s.books)))
+	return appendKeys(b, &s.keys, appendAskedChange)
+}
+
+// record is a book as a snapshot has it. Its lock is held.
+func (e *bookEntry) record() ([]byte, error) {
+	if e.book == nil {
 		return nil, errReplaced
+	} else if e.isBroken {
+		return nil, errors.New("it is not whole, since this member ends")
 	}
 	image, err := e.book.Image()
 	if err != nil {
 		return nil, err
 	}
-	b := appendBytes(nil, []byte(it.name))
-	b = appendBytes(b, e.nodes)
-	b = appendBytes(b, e.origin)
-	b = binary.AppendUvarint(b, e.opens)
-	b = binary.AppendUvarint(b, e.index)
-	b = appendBytes(b, image)
-	b = e.appendKeys(b)
+	b := appendText([]byte{bookRecord}, e.name)
+	b = appendText(b, e.nodes)
+	b = append(b, e.origin[:]...)
+	b = appendStamp(little.AppendUint64(b, e.opens), e.seen)
+	b = appendText(little.AppendUint32(b, e.rules), image)
+	b = appendKeys(b, &e.keys, appendAskedCall)
 	return e.appendHolders(b), nil
 }
 
-// recordOfEnded is a book that was removed: it was begun over nodes 0 times, and has the index of the entry that removed it.
-func recordOfEnded(name string, ended uint64) []byte {
-	b := appendBytes(nil, []byte(name))
-	b = append(b, 0, 0, 0) // (no nodes, no origin, 0 times)
-	b = binary.AppendUvarint(b, ended)
-	return append(b, 0, 0, 0) // (no image, no keys, no holders)
-}
-
-func (e *bookEntry) appendKeys(b []byte) []byte {
-	b = binary.AppendUvarint(b, uint64(len(e.order)))
-	for _, key := range e.order {
-		kept := e.keys[key]
-		b = appendBytes(b, []byte(key))
-		b = binary.AppendUvarint(b, kept.asked)
-		b = binary.AppendUvarint(b, kept.answer.Made)
-		b = binary.AppendUvarint(b, kept.answer.Opens)
-		b = appendBytes(b, []byte(kept.answer.Holder))
-		b = appendBytes(b, bytesOf(&kept.answer.Reply))
-	}
-	return b
-}
-
-// bytesOf are the bytes of a reply without the zeros at its end.
-func bytesOf(reply *book.Reply) []byte {
-	all := (*[unsafe.Sizeof(*reply)]byte)(unsafe.Pointer(reply))[:]
-	for len(all) > 0 && all[len(all)-1] == 0 {
-		all = all[:len(all)-1]
-	}
-	return all
+func isBefore(a, b book.FragmentID) bool {
+	return a.Stripe < b.Stripe || a.Stripe == b.Stripe && a.Number < b.Number
 }
 
 func (e *bookEntry) appendHolders(b []byte) []byte {
@@ -191,35 +248,48 @@ func (e *bookEntry) appendHolders(b []byte) []byte {
 	for key := range e.holders {
 		all = append(all, key)
 	}
-	sort.Slice(all, func(i, j int) bool {
-		return all[i].Stripe < all[j].Stripe || all[i].Stripe == all[j].Stripe && all[i].Number < all[j].Number
-	})
-	b = binary.AppendUvarint(b, uint64(len(all)))
+	sort.Slice(all, func(i, j int) bool { return isBefore(all[i], all[j]) })
+	b = little.AppendUint32(b, uint32(len(all)))
 	for _, key := range all {
-		b = append(binary.AppendUvarint(b, uint64(key.Stripe)), key.Number)
-		b = binary.AppendUvarint(b, uint64(e.holders[key].epoch))
-		b = appendBytes(b, []byte(e.holders[key].worker))
+		b = append(little.AppendUint16(b, key.Stripe), key.Number)
+		b = appendText(little.AppendUint32(b, e.holders[key].epoch), e.holders[key].worker)
 	}
 	return b
 }
 
+func (r *reader) holders() map[book.FragmentID]holding {
+	all := map[book.FragmentID]holding{}
+	var before book.FragmentID
+	for i, count := uint32(0), r.u32(); i < count && !r.isBad; i++ {
+		key := book.FragmentID{Stripe: r.u16(), Number: r.u8()}
+		all[key] = holding{epoch: r.u32(), worker: r.text()}
+		r.isBad = r.isBad || i > 0 && !isBefore(before, key)
+		before = key
+	}
+	return all
+}
+
+// A content is what a snapshot has.
+type content struct {
+	index uint64
+	group group
+	keys  keys[askedChange]
+	books map[string]*bookEntry
+}
+
 // Restore begins in a snapshot. The state is as it was if it fails.
 func (s *State) Restore(from io.Reader) error {
-	s.write.Lock()
-	defer s.write.Unlock()
-	read, err := s.readBooks(bufio.NewReaderSize(from, 1<<18))
+	read, err := s.read(from, (*bookEntry).open)
 	if err != nil {
 		for _, e := range read.books {
 			e.book.Close()
 		}
 		return err
 	}
-	s.entry.Lock()
 	s.mu.Lock()
 	old := s.books
-	s.books, s.ended, s.group = read.books, read.ended, read.group
+	s.index, s.group, s.keys, s.books, s.digests = read.index, read.group, read.keys, read.books, map[string]*digest{}
 	s.mu.Unlock()
-	s.entry.Unlock()
 	for _, e := range old { // a look may still be under way in one of them
 		e.mu.Lock()
 		e.close()
@@ -228,98 +298,110 @@ func (s *State) Restore(from io.Reader) error {
 	return nil
 }
 
-// A content is what a snapshot has.
-type content struct {
-	books map[string]*bookEntry
-	ended map[string]uint64
-	group group
+// Verify reads a snapshot to its end, and changes nothing. The error wraps engine.ErrDamaged if it is not as it was written.
+func (s *State) Verify(from io.Reader) error {
+	_, err := s.read(from, func(*bookEntry, []byte) error { return nil })
+	return err
 }
 
-func (s *State) readBooks(r io.Reader) (content, error) {
-	read := content{books: map[string]*bookEntry{}, ended: map[string]uint64{}}
-	mark := make([]byte, len(magic))
-	if _, err := io.ReadFull(r, mark); err != nil {
-		return read, damaged(err)
-	}
-	if string(mark) != magic {
-		return read, damaged(fmt.Errorf("it begins with %q and not with %q", mark, magic))
-	}
-	head, err := readRecord(r)
+// read reads a snapshot, and opens its books with a function. After an error the content has the books that were opened.
+func (s *State) read(from io.Reader, open func(e *bookEntry, image []byte) error) (content, error) {
+	r, read := bufio.NewReaderSize(from, 1<<18), content{books: map[string]*bookEntry{}}
+	count, err := s.readHead(r, &read)
 	if err != nil {
 		return read, err
 	}
-	read.group = group{uint32(head.number()), uint32(head.number()), head.number()}
-	if err := read.group.begins(s.ours); err != nil {
-		return read, err
-	}
-	for count := head.number(); count > 0; count-- {
-		if err := read.next(r); err != nil {
+	for i, before := uint32(0), ""; i < count; i++ {
+		record, err := readRecord(r, bookRecord)
+		if err != nil {
 			return read, err
 		}
+		e, image := record.book(s.knobs.Keys)
+		if record.end() != nil || e.name <= before {
+			return read, damaged(errUnreadable)
+		}
+		if err := s.takeBook(&read, e, image, open); err != nil {
+			return read, err
+		}
+		before = e.name
 	}
-	return read, nil
+	return read, readEnd(r, count)
 }
 
-// next reads the record of a book.
-func (c *content) next(r io.Reader) error {
-	record, err := readRecord(r)
+func (s *State) takeBook(read *content, e *bookEntry, image []byte, open func(*bookEntry, []byte) error) error {
+	if e.rules != read.group.now.rules && e.rules != s.ours.rules {
+		return otherRules("book "+e.name, version{e.rules, s.ours.form}, s.ours)
+	}
+	if err := open(e, image); err != nil {
+		return fmt.Errorf("book %s: %w", e.name, err)
+	}
+	read.books[e.name] = e
+	return nil
+}
+
+// readHead reads what stands before the books, and returns their number.
+func (s *State) readHead(r *bufio.Reader, read *content) (uint32, error) {
+	mark := make([]byte, len(magic))
+	if _, err := io.ReadFull(r, mark); err != nil {
+		return 0, damaged(err)
+	}
+	if err := checkMagic(string(mark)); err != nil {
+		return 0, err
+	}
+	h, err := readRecord(r, headRecord)
+	if err != nil {
+		return 0, err
+	}
+	read.index = h.u64()
+	read.group = group{now: h.version(), next: h.version(), asked: h.u64()}
+	count := h.u32()
+	read.keys = readKeys(h, s.knobs.Keys, (*reader).askedChange)
+	if h.end() != nil || count > MostBooks {
+		return 0, damaged(errUnreadable)
+	}
+	return count, read.group.begins(s.ours)
+}
+
+// checkMagic tells a snapshot of another form from one that is damaged.
+func checkMagic(mark string) error {
+	form := strings.TrimPrefix(mark, magicMark)
+	switch {
+	case mark == magic:
+		return nil
+	case len(form) == 2 && form[0] >= '1' && form[0] <= '9' && form[1] == '\n':
+		return fmt.Errorf("the snapshot has form %c, and this program reads form 2: nothing of it was taken", form[0])
+	}
+	return damaged(fmt.Errorf("it begins with %q and not with %q", mark, magic))
+}
+
+// readEnd reads what stands behind the books.
+func readEnd(r *bufio.Reader, count uint32) error {
+	last, err := readRecord(r, endRecord)
 	if err != nil {
 		return err
 	}
-	name, e, err := record.book()
-	if err != nil {
-		return err
+	if last.u32() != count || last.end() != nil {
+		return damaged(errUnreadable)
 	}
-	if e.ended > 0 {
-		c.ended[name] = e.ended
-	} else {
-		c.books[name] = e
+	if _, err := r.ReadByte(); err != io.EOF {
+		return damaged(errors.New("it goes on behind its end"))
 	}
 	return nil
 }
 
-func (r *reader) book() (string, *bookEntry, error) {
-	e := &bookEntry{keys: map[string]cachedAnswer{}, holders: map[book.FragmentID]holding{}, grown: make(chan struct{}), removed: make(chan struct{})}
-	name := r.text()
-	e.nodes, e.origin = r.bytes(), r.bytes()
-	e.opens, e.index = r.number(), r.number()
-	e.from = e.index
+// book takes a book that is not open yet, and its image.
+func (r *reader) book(mostKeys int) (*bookEntry, []byte) {
+	e := newBookEntry(r.text(), nil)
+	e.nodes = clone(r.bytes()) // (not with the image and the keys behind it)
+	e.origin = r.sum()
+	e.opens, e.seen, e.rules = r.u64(), r.stamp(), r.u32()
 	image := r.bytes()
-	r.keys(e)
-	r.holders(e)
-	if r.isBad || len(r.rest) > 0 {
-		return "", nil, damaged(errDamaged)
-	}
-	if e.opens == 0 {
-		e.ended = e.index
-		return name, e, nil
-	}
-	var err error
-	e.nodes = clone(e.nodes) // (not with the image and the keys behind it)
-	if e.book, err = book.OpenImage(e.nodes, image); err != nil {
-		return "", nil, fmt.Errorf("book %s: %w", name, err)
-	}
-	return name, e, nil
+	e.keys = readKeys(r, mostKeys, (*reader).askedCall)
+	e.holders = r.holders()
+	return e, image
 }
 
-func clone(text []byte) []byte { return append([]byte(nil), text...) }
-
-func (r *reader) keys(e *bookEntry) {
-	for count := r.number(); count > 0 && !r.isBad; count-- {
-		key := r.text()
-		kept := cachedAnswer{asked: r.number()}
-		kept.answer.Made, kept.answer.Opens = r.number(), r.number()
-		kept.answer.Holder = r.text()
-		reply := (*[unsafe.Sizeof(kept.answer.Reply)]byte)(unsafe.Pointer(&kept.answer.Reply))
-		copy(reply[:], r.bytes())
-		e.keys[key] = kept
-		e.order = append(e.order, key)
-	}
-}
-
-func (r *reader) holders(e *bookEntry) {
-	for count := r.number(); count > 0 && !r.isBad; count-- {
-		key := book.FragmentID{Stripe: uint16(r.number()), Number: r.byte()}
-		e.holders[key] = holding{epoch: uint32(r.number()), worker: r.text()}
-	}
+func (e *bookEntry) open(image []byte) (err error) {
+	e.book, err = book.OpenImage(e.nodes, image)
+	return err
 }

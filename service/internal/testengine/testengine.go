@@ -46,6 +46,9 @@ func (l *Local) Propose(_ context.Context, payload []byte) (interface{}, error) 
 	if !isMade {
 		return nil, wrong
 	}
+	if err := l.machine.Check(payload); err != nil {
+		return nil, err
+	}
 	l.index++
 	told, err := l.machine.Apply(l.index, payload)
 	if wrong != nil {

@@ -78,19 +78,34 @@ func (l *list) Freeze() func(io.Writer) error {
 	}
 }
 
-func (l *list) Restore(r io.Reader) error {
+func (l *list) Check([]byte) error { return nil }
+
+func (l *list) Verify(r io.Reader) error {
+	_, err := l.read(r)
+	return err
+}
+
+func (l *list) read(r io.Reader) ([]byte, error) {
 	text, err := io.ReadAll(r)
 	if err != nil {
-		return err
+		return nil, err
 	}
 	if len(text) < 8 || fmt.Sprintf("%08x", crc32.ChecksumIEEE(text[8:])) != string(text[:8]) {
-		return fmt.Errorf("%w: its list", engine.ErrDamaged)
+		return nil, fmt.Errorf("%w: its list", engine.ErrDamaged)
+	}
+	return text[8:], nil
+}
+
+func (l *list) Restore(r io.Reader) error {
+	text, err := l.read(r)
+	if err != nil {
+		return err
 	}
 	var found struct {
 		Index   uint64
 		Entries []string
 	}
-	if err := json.Unmarshal(text[8:], &found); err != nil {
+	if err := json.Unmarshal(text, &found); err != nil {
 		return err
 	}
 	l.mu.Lock()

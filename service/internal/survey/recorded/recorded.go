@@ -124,11 +124,11 @@ func (b *Book) Replay(name string, s *state.State) error {
 		}
 		items = append(items, &state.Item{Action: state.Call, Book: name, Worker: line.Worker, Session: line.Session, Command: command})
 	}
-	told, err := s.Apply(1, s.Encode(items))
+	answers, err := apply(s, 1, items)
 	if err != nil {
 		return err
 	}
-	for i, answer := range told.([]state.Answer) {
+	for i, answer := range answers {
 		if answer.Rejected != 0 {
 			return fmt.Errorf("item %d: %s", i, answer.Words)
 		}
@@ -137,6 +137,22 @@ func (b *Book) Replay(name string, s *state.State) error {
 		}
 	}
 	return nil
+}
+
+// apply brings items into a state by entries from an index on.
+func apply(s *state.State, index uint64, items []*state.Item) (answers []state.Answer, err error) {
+	for ; len(items) > 0; index++ {
+		count := state.MostItems
+		if len(items) < count {
+			count = len(items)
+		}
+		told, err := s.Apply(index, s.Encode(items[:count]))
+		if err != nil {
+			return nil, err
+		}
+		answers, items = append(answers, told.([]state.Answer)...), items[count:]
+	}
+	return answers, nil
 }
 
 // Largest makes a book of 512 nodes and as many stripes as there may be, after a rack was lost and while a node drains.
@@ -159,7 +175,7 @@ func Largest(s *state.State, index uint64, name string) error {
 		call(book.Command{Kind: book.Fail, Node: node})
 	}
 	call(book.Command{Kind: book.Drain, Node: 80})
-	_, err = s.Apply(index, s.Encode(items))
+	_, err = apply(s, 10*index, items) // (they are five entries)
 	return err
 }
 
@@ -218,7 +234,7 @@ func (b Books) Look(name string, look func(survey.View) error) error {
 
 type view struct{ *Book }
 
-func (v view) Position() state.Position { return state.Position{Made: uint64(v.Shown), Opens: 1} }
+func (v view) Position() state.Position { return state.Position{Made: uint64(v.Shown), Opens: state.Stamp{Index: 1}.Number()} }
 func (v view) Clock() uint32            { return uint32(v.Value("clock")) }
 
 func (v view) Upgrading() (uint8, bool) {
