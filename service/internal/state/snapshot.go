@@ -211,11 +211,13 @@ func readRecord(from io.Reader, kind uint8) (*reader, error) {
 }
 
 // recordOfHead is the state without its books.
-func (s *State) recordOfHead() []byte {
+func (s *State) recordOfHead() []byte { return s.recordOfHeadWith(uint32(len(s.books))) }
+
+func (s *State) recordOfHeadWith(count uint32) []byte {
 	b := little.AppendUint64([]byte{headRecord}, s.index)
 	b = appendVersion(appendVersion(b, s.group.now), s.group.next)
 	b = little.AppendUint64(b, s.group.asked)
-	b = little.AppendUint32(b, uint32(len(s.books)))
+	b = little.AppendUint32(b, count)
 	return appendKeys(b, &s.keys, appendAskedChange)
 }
 
@@ -230,13 +232,17 @@ func (e *bookEntry) record() ([]byte, error) {
 	if err != nil {
 		return nil, err
 	}
+	return e.recordWith(image), nil
+}
+
+func (e *bookEntry) recordWith(image []byte) []byte {
 	b := appendText([]byte{bookRecord}, e.name)
 	b = appendText(b, e.nodes)
 	b = append(b, e.origin[:]...)
 	b = appendStamp(little.AppendUint64(b, e.opens), e.seen)
 	b = appendText(little.AppendUint32(b, e.rules), image)
 	b = appendKeys(b, &e.keys, appendAskedCall)
-	return e.appendHolders(b), nil
+	return e.appendHolders(b)
 }
 
 func isBefore(a, b book.FragmentID) bool {
@@ -352,14 +358,19 @@ func (s *State) readHead(r *bufio.Reader, read *content) (uint32, error) {
 	if err != nil {
 		return 0, err
 	}
-	read.index = h.u64()
-	read.group = group{now: h.version(), next: h.version(), asked: h.u64()}
-	count := h.u32()
-	read.keys = readKeys(h, s.knobs.Keys, (*reader).askedChange)
-	if h.end() != nil || count > MostBooks {
+	count := s.takeHead(h, read)
+	if h.end() != nil || count > uint32(s.knobs.Books) {
 		return 0, damaged(errUnreadable)
 	}
 	return count, read.group.begins(s.ours)
+}
+
+func (s *State) takeHead(h *reader, read *content) (count uint32) {
+	read.index = h.u64()
+	read.group = group{now: h.version(), next: h.version(), asked: h.u64()}
+	count = h.u32()
+	read.keys = readKeys(h, s.knobs.Keys, (*reader).askedChange)
+	return count
 }
 
 // checkMagic tells a snapshot of another form from one that is damaged.

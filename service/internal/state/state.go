@@ -73,6 +73,7 @@ type State struct {
 type Knobs struct {
 	Rules uint32            // what the library's rules are taken for
 	Keys  int               // how many keys are kept, in place of MostKeys
+	Books int               // how many books there may be, in place of MostBooks
 	Item  func(Stamp) error // is called before each item; an error ends the entry there, as a library without memory does
 }
 
@@ -86,6 +87,9 @@ func NewWith(knobs Knobs) *State {
 	}
 	if knobs.Keys == 0 {
 		knobs.Keys = MostKeys
+	}
+	if knobs.Books == 0 {
+		knobs.Books = MostBooks
 	}
 	return &State{knobs: knobs, ours: version{knobs.Rules, Form}, keys: newKeys[askedChange](knobs.Keys, Stamp{}),
 		books: map[string]*bookEntry{}, group: newGroup(), digests: map[string]*digest{}}
@@ -127,7 +131,7 @@ func (s *State) entry(payload []byte) ([]Answer, error) {
 func (s *State) otherForm(h head) ([]Answer, error) {
 	s.mu.Lock()
 	defer s.mu.Unlock()
-	if h.version == s.group.now || h.version == s.group.next {
+	if h.version == s.group.now || s.group.isChanging() && h.version == s.group.next {
 		return nil, otherRules("it", h.version, s.ours)
 	}
 	return refused(h, reject(OtherRules, s.group.agree(h.version))), nil
@@ -248,8 +252,8 @@ func (s *State) create(at Stamp, item *Item) (Answer, error) {
 	if s.find(item.Book) != nil {
 		return s.inBook(at, item, true, (*bookEntry).isOf)
 	}
-	if len(s.books) >= MostBooks {
-		return reject(TooManyBooks, fmt.Sprintf("there are %d books already", MostBooks)), nil
+	if len(s.books) >= s.knobs.Books {
+		return reject(TooManyBooks, fmt.Sprintf("there are %d books already", len(s.books))), nil
 	}
 	b, rejected, err := open(item.Nodes, item.Image)
 	if err != nil || rejected.Rejected != 0 {

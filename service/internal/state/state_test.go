@@ -39,6 +39,15 @@ func newPlayer(t *testing.T) *player {
 	return p
 }
 
+// newFullPlayer makes as many books as there may be, which are ten.
+func newFullPlayer(t *testing.T) *player {
+	p := &player{t: t, s: NewWith(Knobs{Books: 10})}
+	for i := 0; i < 10; i++ {
+		p.item(&Item{Action: Create, Book: fmt.Sprintf("p%d", i), Nodes: twenty})
+	}
+	return p
+}
+
 func (p *player) items(items ...*Item) []Answer {
 	p.t.Helper()
 	p.index++
@@ -102,7 +111,9 @@ func (p *player) snapshot() []byte {
 // restored is a player whose state begins in a snapshot.
 func (p *player) restored(snapshot []byte) *player {
 	p.t.Helper()
-	other := &player{t: p.t, s: New(), index: p.index}
+	knobs := p.s.knobs
+	knobs.Item = nil
+	other := &player{t: p.t, s: NewWith(knobs), index: p.index}
 	if err := other.s.Restore(bytes.NewReader(snapshot)); err != nil {
 		p.t.Fatal(err)
 	}
@@ -554,10 +565,7 @@ func TestASnapshotKnowsWhatWasRemovedMeanwhile(t *testing.T) {
 }
 
 func TestABookThatIsRemovedLaterStillTakesRoom(t *testing.T) {
-	p := newPlayer(t)
-	for i := 1; i < MostBooks; i++ {
-		p.item(&Item{Action: Create, Book: fmt.Sprintf("p%d", i), Nodes: nodesOf(1, 1)})
-	}
+	p := newFullPlayer(t)
 	write, begun := p.s.Freeze(), p.index
 	later := func(q *player) []Rejection {
 		return []Rejection{q.item(&Item{Action: Create, Book: "q", Nodes: twenty}).Rejected,
@@ -576,6 +584,16 @@ func TestABookThatIsRemovedLaterStillTakesRoom(t *testing.T) {
 	if later(q); !reflect.DeepEqual(q.s.Names(), p.s.Names()) {
 		t.Errorf("the one that began in the snapshot has other books: %d and %d", len(q.s.Names()), len(p.s.Names()))
 	}
+}
+
+func TestThereAreSoManyBooks(t *testing.T) {
+	p := &player{t: t, s: New()}
+	for i := 0; i < MostBooks; i++ {
+		if answer := p.item(&Item{Action: Create, Book: fmt.Sprintf("p%d", i), Nodes: nodesOf(1, 1)}); answer.Rejected != 0 {
+			t.Fatal(i, answer)
+		}
+	}
+	p.rejected(p.item(&Item{Action: Create, Book: "q", Nodes: twenty}), TooManyBooks, "there are 1024 books already")
 }
 
 // made are the numbers of entries of all books.

@@ -234,8 +234,10 @@ func (b Books) Look(name string, look func(survey.View) error) error {
 
 type view struct{ *Book }
 
-func (v view) Position() state.Position { return state.Position{Made: uint64(v.Shown), Opens: state.Stamp{Index: 1}.Number()} }
-func (v view) Clock() uint32            { return uint32(v.Value("clock")) }
+func (v view) Position() state.Position {
+	return state.Position{Made: uint64(v.Shown), Opens: state.Stamp{Index: 1}.Number()}
+}
+func (v view) Clock() uint32 { return uint32(v.Value("clock")) }
 
 func (v view) Upgrading() (uint8, bool) {
 	domain, err := strconv.ParseUint(v.Status["upgrading"], 10, 8)
