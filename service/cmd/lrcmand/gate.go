@@ -10,7 +10,6 @@ import (
 
 // A gate answers clients itself while the member starts or ends, and lets them through between. Nothing is made of what it refuses.
 type gate struct {
-	next     http.Handler
 	shut     atomic.Pointer[reason] // nil: it is open
 	underWay int64                  // atomic: requests that were let through and are not answered yet
 }
@@ -27,14 +26,19 @@ var (
 	ends   = &reason{"ended", "ends", "this member ends"}
 )
 
-// ServeHTTP answers a request. Whoever asks whether the process lives is told so.
-func (g *gate) ServeHTTP(w http.ResponseWriter, r *http.Request) {
+// before is the gate before a handler.
+func (g *gate) before(next http.Handler) http.Handler {
+	return http.HandlerFunc(func(w http.ResponseWriter, r *http.Request) { g.answer(w, r, next) })
+}
+
+// answer answers a request. Whoever asks whether the process lives is told so.
+func (g *gate) answer(w http.ResponseWriter, r *http.Request, next http.Handler) {
 	atomic.AddInt64(&g.underWay, 1) // (before it looks: so quiet does not miss one that was let through)
 	defer atomic.AddInt64(&g.underWay, -1)
 	why := g.shut.Load()
 	switch {
 	case why == nil:
-		g.next.ServeHTTP(w, r)
+		next.ServeHTTP(w, r)
 	case r.URL.Path == "/livez":
 		say(w, http.StatusOK, map[string]bool{"ok": true})
 	default:

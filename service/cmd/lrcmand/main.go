@@ -49,7 +49,7 @@ func main() {
 func check(o *options) int {
 	err := book.Check()
 	if err == nil && o.cert != "" {
-		_, err = o.tls()
+		_, err = newKeys(o.cert, o.key, o.clientCA, logging.Nowhere())
 	}
 	if err != nil {
 		fmt.Fprintf(os.Stderr, "lrcmand check: %v\n", err)

@@ -1,15 +1,12 @@
 package main
 
 import (
-	"crypto/tls"
-	"crypto/x509"
 	"errors"
 	"flag"
 	"fmt"
 	"hash/fnv"
 	"io"
 	"net"
-	"os"
 	"strings"
 	"time"
 
@@ -37,6 +34,8 @@ type options struct {
 	self                                    engine.Member
 	first                                   []engine.Member
 	rights                                  *httpapi.Rights
+	listenMetrics, auditFile                string
+	hosts                                   hostNames
 }
 
 func parse(words []string) (*options, error) {
@@ -45,6 +44,8 @@ func parse(words []string) (*options, error) {
 	flags.SetOutput(io.Discard)
 	flags.StringVar(&o.data, "data", "", "`DIR`: folder of this member")
 	flags.StringVar(&o.listen, "listen", "127.0.0.1:7421", "`HOST:PORT`: address for clients")
+	flags.StringVar(&o.listenMetrics, "listen-metrics", "", "`HOST:PORT`: address for health and metrics alone, in the clear")
+	flags.Var(&o.hosts, "host", "`NAME`: a further name by which clients call this member; may come again")
 	flags.Uint64Var(&o.id, "id", 1, "`N`: number of this member")
 	flags.StringVar(&o.members, "members", "", "`N=PEER/CLIENT,..`: the first members, alike on all of them")
 	flags.StringVar(&o.peer, "peer", "", "`HOST:PORT`: address for the other members")
@@ -56,7 +57,8 @@ func parse(words []string) (*options, error) {
 	flags.Uint64Var(&o.snapshotEvery, "snapshot-every", 100000, "`N`: entries between snapshots")
 	flags.Uint64Var(&o.trailing, "trailing", 5000, "`N`: entries that stay behind a snapshot")
 	flags.Uint64Var(&o.rate, "rate", 0, "`N`: requests a second from one address; 0: any number")
-	flags.StringVar(&o.tokenFile, "token-file", "", "`FILE`: lines of ROLE TOKEN")
+	flags.StringVar(&o.tokenFile, "token-file", "", "`FILE`: lines of ROLE TOKEN, or ROLE cert=NAME")
+	flags.StringVar(&o.auditFile, "audit-file", "", "`FILE`: what operators ask and who is refused; in the log by default")
 	flags.StringVar(&o.cert, "cert", "", "`FILE`: certificate for clients")
 	flags.StringVar(&o.key, "key", "", "`FILE`: its key")
 	flags.StringVar(&o.clientCA, "client-ca", "", "`FILE`: who signs the certificates of clients")
@@ -110,7 +112,8 @@ func (o *options) check() error {
 	if err := o.readMembers(); err != nil {
 		return err
 	}
-	if err := o.readRights(); err != nil {
+	var err error
+	if o.rights, err = o.readRights(); err != nil {
 		return err
 	}
 	return o.checkAddresses()
@@ -182,21 +185,6 @@ func (o *options) readLogging() (err error) {
 	return nil
 }
 
-func (o *options) readRights() error {
-	if o.tokenFile == "" {
-		return nil
-	}
-	file, err := os.Open(o.tokenFile)
-	if err != nil {
-		return err
-	}
-	defer file.Close()
-	if o.rights, err = httpapi.ReadRights(file); err != nil {
-		return fmt.Errorf("%s: %w", o.tokenFile, err)
-	}
-	return nil
-}
-
 // checkAddresses refuses ports that others reach and that ask nobody who they are.
 func (o *options) checkAddresses() error {
 	if err := httpapi.CheckAddress(o.listen); err != nil {
@@ -207,11 +195,22 @@ func (o *options) checkAddresses() error {
 			return fmt.Errorf("--peer %w", err)
 		}
 	}
+	if o.listenMetrics != "" {
+		if err := httpapi.CheckAddress(o.listenMetrics); err != nil {
+			return fmt.Errorf("--listen-metrics %w", err)
+		}
+	}
 	if o.trustNetwork {
 		return nil
 	}
 	if !isLoopback(o.listen) && o.rights == nil && o.clientCA == "" {
 		return errors.New("--listen beyond loopback takes --token-file or --client-ca, or else --trust-network")
+	}
+	if !isLoopback(o.listen) && o.cert == "" {
+		return errors.New("--token-file with --listen beyond loopback takes --cert and --key, or tokens are in the clear: else --trust-network")
+	}
+	if o.listenMetrics != "" && !isLoopback(o.listenMetrics) {
+		return errors.New("--listen-metrics beyond loopback takes --trust-network: it asks nobody who they are")
 	}
 	if o.peer != "" && !isLoopback(o.peer) && o.peerCA == "" {
 		return errors.New("--peer beyond loopback takes --peer-cert, --peer-key and --peer-ca, or else --trust-network")
@@ -245,44 +244,4 @@ func (o *options) config(logger *logging.Logger) raftlog.Config {
 		cfg.TLS = transport.TLSInfo{CertFile: o.peerCert, KeyFile: o.peerKey, TrustedCAFile: o.peerCA, ClientCertAuth: true}
 	}
 	return cfg
-}
-
-// listener makes the port for clients; what TLS takes is nil without it.
-func (o *options) listener() (net.Listener, *tls.Config, error) {
-	var config *tls.Config
-	if o.cert != "" {
-		var err error
-		if config, err = o.tls(); err != nil {
-			return nil, nil, err
-		}
-	}
-	listener, err := net.Listen("tcp", o.listen)
-	if err != nil {
-		return nil, nil, err
-	}
-	return httpapi.Limit(listener), config, nil
-}
-
-// tls reads the certificate anew for each handshake, so that a new one is taken without a restart.
-func (o *options) tls() (*tls.Config, error) {
-	load := func(*tls.ClientHelloInfo) (*tls.Certificate, error) {
-		certificate, err := tls.LoadX509KeyPair(o.cert, o.key)
-		return &certificate, err
-	}
-	if _, err := load(nil); err != nil {
-		return nil, err
-	}
-	config := &tls.Config{MinVersion: tls.VersionTLS12, GetCertificate: load}
-	if o.clientCA == "" {
-		return config, nil
-	}
-	text, err := os.ReadFile(o.clientCA)
-	if err != nil {
-		return nil, err
-	}
-	config.ClientCAs, config.ClientAuth = x509.NewCertPool(), tls.RequireAndVerifyClientCert
-	if !config.ClientCAs.AppendCertsFromPEM(text) {
-		return nil, fmt.Errorf("%s has no certificate", o.clientCA)
-	}
-	return config, nil
 }

@@ -21,17 +21,21 @@ import (
 	"lrcman/service/internal/testengine"
 )
 
-var tokens = map[httpapi.Role]string{httpapi.Look: "lookslookslookslooks", httpapi.Work: "worksworksworksworks",
-	httpapi.Operate: "operatesoperatesoperates"}
+var (
+	tokens = map[string]string{"look": "lookslookslookslooks", "work": "worksworksworksworks", "place": "placesplacesplaces",
+		"operate": "operatesoperatesoperates"}
+	rights = map[string]httpapi.Role{"none": httpapi.Nobody, "look": httpapi.Look, "work": httpapi.Work, "place": httpapi.Place,
+		"operate": httpapi.Operate}
+)
 
 // newAPI is what a member answers, page and metrics too, over an engine without a disk.
 func newAPI(t *testing.T) (*httpapi.API, *monitoring) {
 	t.Helper()
 	lines := ""
 	for role, token := range tokens {
-		lines += fmt.Sprintf("%v %s\n", role, token)
+		lines += fmt.Sprintf("%s %s\n", role, token)
 	}
-	rights, err := httpapi.ReadRights(strings.NewReader(lines))
+	granted, err := httpapi.ReadRights(strings.NewReader(lines))
 	if err != nil {
 		t.Fatal(err)
 	}
@@ -42,9 +46,13 @@ func newAPI(t *testing.T) (*httpapi.API, *monitoring) {
 	go r.Run(ctx)
 	monitoring := newMonitoring(e, books, t.TempDir())
 	t.Cleanup(func() { stop(); monitoring.stop() })
-	return httpapi.New(httpapi.Config{Engine: e, State: books, Replica: r, Rights: rights, Timeout: time.Second,
+	return httpapi.New(httpapi.Config{Engine: e, State: books, Replica: r, Rights: granted, Timeout: time.Second,
 		Mounts: monitoring.mounts(), Observe: monitoring.metrics.Observe}), monitoring
 }
+
+// rightsOf are those of roles, as the page has them.
+var rightsOf = map[string]httpapi.Role{"look": httpapi.Look, "work": httpapi.Look | httpapi.Work, "place": httpapi.Look | httpapi.Place,
+	"operate": httpapi.Look | httpapi.Work | httpapi.Place | httpapi.Operate}
 
 // A row is a request of the page: its path has the names of patterns.
 type row struct {
@@ -64,14 +72,16 @@ func rowsOf(t *testing.T) []row {
 	}
 	_, part, _ := strings.Cut(string(text), "\n| Request | Does | Role |\n|---|---|---|\n")
 	part, _, _ = strings.Cut(part, "\n\n")
-	roles := map[string]httpapi.Role{"none": httpapi.Nobody, "look": httpapi.Look, "work": httpapi.Work, "operate": httpapi.Operate}
 	var rows []row
 	for _, line := range strings.Split(part, "\n") {
 		cells := strings.Split(line, " | ")
-		least, _, _ := strings.Cut(strings.TrimSuffix(cells[len(cells)-1], " |"), ",")
-		role, isRole := roles[least]
-		if len(cells) != 3 || !isRole {
-			t.Fatalf("this row is not read: %s", line)
+		role := httpapi.Nobody
+		for _, word := range strings.Split(strings.TrimSuffix(cells[len(cells)-1], " |"), ", ") {
+			right, isRight := rights[word]
+			if len(cells) != 3 || !isRight {
+				t.Fatalf("this row is not read: %s", line)
+			}
+			role |= right
 		}
 		for _, request := range regexp.MustCompile("`([A-Z]+) ([^?`]*)([^`]*)`").FindAllStringSubmatch(cells[0], -1) {
 			var parameters []string
@@ -118,12 +128,12 @@ func TestThePageHasEachRoute(t *testing.T) {
 	}
 }
 
-// ask asks for a route with the token of a role, and returns the status. Streams end at once.
-func ask(api *httpapi.API, method, path string, role httpapi.Role) int {
+// ask asks for a route with the token of a role, if it has one, and returns the status. Streams end at once.
+func ask(api *httpapi.API, method, path, role string) int {
 	ctx, cancel := context.WithTimeout(context.Background(), 100*time.Millisecond)
 	defer cancel()
 	r := httptest.NewRequest(method, path, nil).WithContext(ctx)
-	if role != httpapi.Nobody {
+	if role != "none" {
 		r.Header.Set("Authorization", "Bearer "+tokens[role])
 	}
 	recorder := httptest.NewRecorder()
@@ -142,13 +152,11 @@ func TestEachRouteIsALabelOfTheMetrics(t *testing.T) {
 				want[label] = true
 			}
 			path := strings.NewReplacer("{book}", "p0", "{id}", "7", "{stripe}", "1", "{view}", view).Replace(row.path)
-			if row.role > httpapi.Nobody {
-				if status := ask(api, row.method, path, row.role-1); status != 401 && status != 403 {
-					t.Errorf("%s %s as %v: %d", row.method, path, row.role-1, status)
+			for _, role := range []string{"none", "look", "work", "place", "operate"} {
+				may := row.role&rightsOf[role] != 0 || row.role == httpapi.Nobody
+				if status := ask(api, row.method, path, role); may == (status == 401 || status == 403) || status == 405 {
+					t.Errorf("%s %s as %s: %d", row.method, path, role, status)
 				}
-			}
-			if status := ask(api, row.method, path, row.role); status == 401 || status == 403 || status == 405 {
-				t.Errorf("%s %s as %v: %d", row.method, path, row.role, status)
 			}
 			if !strings.Contains(row.path, "{view}") {
 				break

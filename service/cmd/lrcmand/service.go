@@ -26,8 +26,10 @@ type service struct {
 	engine     engine.Engine
 	api        *httpapi.API
 	monitoring *monitoring
+	ports      *ports
 	gate       *gate
 	server     *http.Server
+	watch      *http.Server       // of health and metrics alone
 	stop       context.CancelFunc // of the replica
 }
 
@@ -37,14 +39,12 @@ func startService(o *options, logger *logging.Logger) (*service, int) {
 		logger.Error(err.Error())
 		return nil, statusFault
 	}
-	listener, config, err := o.listener()
+	ports, err := o.open(logger)
 	if err != nil {
 		logger.Error(err.Error())
 		return nil, statusUsage
 	}
-	port := newRelay(listener)
-	early := &http.Server{Handler: shutGate(starts), ReadTimeout: startTime, ErrorLog: logger.Std(logging.Debug)}
-	go serve(early, port.turn(), config, logger)
+	early := ports.serveEarly(shutGate(starts))
 	knobs := readKnobs()
 	books, cfg := state.NewWith(knobs.state), o.config(logger)
 	cfg.Knobs = knobs.raftlog
@@ -53,9 +53,14 @@ func startService(o *options, logger *logging.Logger) (*service, int) {
 		logger.Error(err.Error())
 		return nil, statusFault
 	}
-	s := newService(o, logger, node, books, knobs.replica)
-	go serve(s.server, port.last(), config, logger)
-	turnOff(early)
+	s := newService(o, logger, node, books, knobs.replica, ports)
+	go serve(s.server, ports.clients.last(), ports.tls(), logger)
+	if ports.watch != nil {
+		go serve(s.watch, ports.watch.last(), nil, logger)
+	}
+	for _, server := range early {
+		turnOff(server)
+	}
 	logger.Info("member serves", "member", o.id, "listen", o.listen, "rules", books.Rules(), "version", version, "commit", commit)
 	s.notify("READY=1")
 	return s, 0
@@ -79,18 +84,21 @@ func shutGate(why *reason) *gate {
 	return g
 }
 
-func newService(o *options, logger *logging.Logger, node engine.Engine, books *state.State, knobs replica.Knobs) *service {
-	s := &service{options: o, log: logger, engine: node}
+func newService(o *options, logger *logging.Logger, node engine.Engine, books *state.State, knobs replica.Knobs, ports *ports) *service {
+	s := &service{options: o, log: logger, engine: node, ports: ports}
 	r := replica.New(replica.Config{Engine: node, State: books, Timeout: o.timeout, Tick: o.tickTime(), Log: logger.Std(logging.Info),
 		Knobs: knobs})
 	s.monitoring = newMonitoring(node, books, o.data)
-	s.api = httpapi.New(httpapi.Config{Engine: node, State: books, Replica: r, Rights: o.rights, Rates: o.rates(), Timeout: o.timeout,
-		Mounts: s.monitoring.mounts(), Observe: s.monitoring.metrics.Observe})
-	s.gate, s.server = &gate{next: s.api}, s.api.Server()
-	s.server.Handler = s.gate
+	s.monitoring.metrics.ConnectionsOf(ports.connections.Counts)
+	s.api = httpapi.New(httpapi.Config{Engine: node, State: books, Replica: r, Rights: o.rights, Hosts: o.allHosts(node), Rates: o.rates(),
+		Timeout: o.timeout, Mounts: s.monitoring.mounts(), Observe: s.monitoring.metrics.Observe, Audit: ports.auditTo(logger),
+		Connections: ports.connections, Watchers: ports.watchers, Log: logger.Std(logging.Error)})
+	s.gate, s.server, s.watch = &gate{}, s.api.Server(), s.api.WatchServer()
+	s.server.Handler, s.watch.Handler = s.gate.before(s.server.Handler), s.gate.before(s.watch.Handler)
 	ctx, stop := context.WithCancel(context.Background())
 	s.stop = stop
 	go r.Run(ctx)
+	ports.rereadAtSignal(ctx, o, logger)
 	return s
 }
 
@@ -177,5 +185,6 @@ func (s *service) leadAway() {
 func (s *service) close() {
 	s.stop()
 	s.server.Close()
+	s.watch.Close()
 	s.engine.Close()
 }

@@ -20,10 +20,10 @@ import (
 
 func TestAGateRefusesByNameAndLetsThroughWhatItMay(t *testing.T) {
 	g := shutGate(starts)
-	g.next = http.HandlerFunc(func(w http.ResponseWriter, r *http.Request) { w.WriteHeader(http.StatusTeapot) })
+	handler := g.before(http.HandlerFunc(func(w http.ResponseWriter, r *http.Request) { w.WriteHeader(http.StatusTeapot) }))
 	ask := func(path string) (*http.Response, refusal) {
 		recorder, found := httptest.NewRecorder(), refusal{}
-		g.ServeHTTP(recorder, httptest.NewRequest("POST", path, strings.NewReader("body")))
+		handler.ServeHTTP(recorder, httptest.NewRequest("POST", path, strings.NewReader("body")))
 		json.Unmarshal(recorder.Body.Bytes(), &found)
 		return recorder.Result(), found
 	}
@@ -50,8 +50,9 @@ func TestAGateRefusesByNameAndLetsThroughWhatItMay(t *testing.T) {
 
 func TestAGateIsQuietOnceAllIsAnswered(t *testing.T) {
 	entered, leave := make(chan bool), make(chan bool)
-	g := &gate{next: http.HandlerFunc(func(w http.ResponseWriter, r *http.Request) { entered <- true; <-leave })}
-	go g.ServeHTTP(httptest.NewRecorder(), httptest.NewRequest("GET", "/", nil))
+	g := &gate{}
+	handler := g.before(http.HandlerFunc(func(w http.ResponseWriter, r *http.Request) { entered <- true; <-leave }))
+	go handler.ServeHTTP(httptest.NewRecorder(), httptest.NewRequest("GET", "/", nil))
 	<-entered
 	begun := time.Now()
 	if g.quiet(50 * time.Millisecond); time.Since(begun) < 50*time.Millisecond {

@@ -5,19 +5,15 @@ package httpapi
 import (
 	"context"
 	"encoding/json"
-	"errors"
 	"io"
 	"log"
 	"net"
 	"net/http"
 	"net/url"
-	"os"
 	"strconv"
 	"strings"
 	"sync/atomic"
 	"time"
-
-	"golang.org/x/net/netutil"
 
 	"lrcman/service/internal/engine"
 	"lrcman/service/internal/replica"
@@ -25,28 +21,45 @@ import (
 )
 
 const (
-	mostConnections = 1024
+	MostConnections = 1024 // at the port for clients
 	mostStreams     = 64
-	bodyTime        = 10 * time.Second // in which a body has to come
+	bodyTime        = 10 * time.Second // in which a head has to come, and then a body
 	writeTime       = 30 * time.Second // in which a client has to take an answer, or a part of a stream
+	idleTime        = 15 * time.Second // between two requests of a connection
 )
 
 // A Config says what an API answers of, and whom.
 type Config struct {
-	Engine  engine.Engine
-	State   *state.State
-	Replica *replica.Replica
-	Rights  *Rights       // nil: all may do all
-	Rates   *Rates        // nil: no address makes too many requests
-	Timeout time.Duration // of one request
-	Mounts  []Mount       // what other packages answer
-	Observe func(Served)  // is told of each request; nil: nobody is
-	Knobs   Knobs
+	Engine                engine.Engine
+	State                 *state.State
+	Replica               *replica.Replica
+	Rights                *Rights       // nil: all may do all
+	Hosts                 *Hosts        // nil: clients may call this member by any name
+	Rates                 *Rates        // nil: no address makes too many requests
+	Timeout               time.Duration // of one request
+	Mounts                []Mount       // what other packages answer
+	Observe               func(Served)  // is told of each request; nil: nobody is
+	Connections, Watchers *Connections  // at the port for clients, and at that for health and metrics; nil: nobody counts them
+	Audit                 func(string)  // is told what was asked for as an operator, and what was refused for lack of rights; nil: nobody is
+	Log                   *log.Logger   // is told of faults; nil: nobody is
+	Knobs                 Knobs
 }
 
 // Knobs are what tests do otherwise. Those that are zero change nothing.
 type Knobs struct {
-	BodyTime time.Duration // in which a body has to come
+	BodyTime  time.Duration // in which a body has to come
+	WriteTime time.Duration // in which an answer has to be taken
+}
+
+// withDefaults fills in what the service does.
+func (k Knobs) withDefaults() Knobs {
+	if k.BodyTime == 0 {
+		k.BodyTime = bodyTime
+	}
+	if k.WriteTime == 0 {
+		k.WriteTime = writeTime
+	}
+	return k
 }
 
 // An API answers clients.
@@ -55,14 +68,25 @@ type API struct {
 	routes  []Route
 	refused *tally
 	stop    chan struct{}
+	bodies  *room
+	faults  *sparing // the log of faults
+	audit   *audit
 }
 
 // New makes an API.
 func New(cfg Config) *API {
-	if cfg.Knobs.BodyTime == 0 {
-		cfg.Knobs.BodyTime = bodyTime
+	cfg.Knobs = cfg.Knobs.withDefaults()
+	if cfg.Log == nil {
+		cfg.Log = log.New(io.Discard, "", 0)
 	}
-	a := &API{cfg: cfg, refused: &tally{}, stop: make(chan struct{})}
+	if cfg.Connections == nil {
+		cfg.Connections = NewConnections(MostConnections)
+	}
+	if cfg.Watchers == nil {
+		cfg.Watchers = NewConnections(MostConnections)
+	}
+	a := &API{cfg: cfg, refused: &tally{}, stop: make(chan struct{}), bodies: &room{}, audit: newAudit(cfg.Audit),
+		faults: newSparing(mostFaults, func(words string) { cfg.Log.Print(words) })}
 	a.routes = a.table()
 	for _, mount := range cfg.Mounts {
 		a.routes = append(a.routes, mount.route())
@@ -75,57 +99,92 @@ func (a *API) Close() { close(a.stop) }
 
 type connKey struct{}
 
-// Server is an HTTP server for this API.
+// Server is an HTTP server for clients.
 func (a *API) Server() *http.Server {
-	return &http.Server{Handler: a, ReadHeaderTimeout: a.cfg.Knobs.BodyTime, IdleTimeout: 2 * time.Minute, MaxHeaderBytes: mostHead,
-		ErrorLog: log.New(io.Discard, "", 0), ConnContext: func(ctx context.Context, c net.Conn) context.Context {
+	return a.server(a.cfg.Connections, func(w http.ResponseWriter, r *http.Request) { a.serve(w, r, false) })
+}
+
+// WatchServer is an HTTP server that answers health and metrics alone, and asks nobody who they are.
+func (a *API) WatchServer() *http.Server {
+	return a.server(a.cfg.Watchers, func(w http.ResponseWriter, r *http.Request) { a.serve(w, r, true) })
+}
+
+func (a *API) server(of *Connections, answer http.HandlerFunc) *http.Server {
+	return &http.Server{Handler: answer, ReadHeaderTimeout: a.cfg.Knobs.BodyTime, IdleTimeout: idleTime, MaxHeaderBytes: mostHead,
+		ErrorLog: log.New(a.faults, "", 0), ConnState: of.Note, ConnContext: func(ctx context.Context, c net.Conn) context.Context {
 			return context.WithValue(ctx, connKey{}, c)
 		}}
 }
 
-// Limit lets so many clients in at once, and no more.
-func Limit(listener net.Listener) net.Listener {
-	return netutil.LimitListener(listener, mostConnections)
-}
+// ServeHTTP answers one request of a client.
+func (a *API) ServeHTTP(w http.ResponseWriter, r *http.Request) { a.serve(w, r, false) }
 
-// serve answers a request for a target.
-func (a *API) serve(w http.ResponseWriter, r *http.Request, to target) {
+// answerIn answers a request for a target within its time, and returns what there is to tell of it.
+func (a *API) answerIn(w http.ResponseWriter, r *http.Request, to target, isWatch bool) *request {
 	ctx, cancel := context.WithTimeout(r.Context(), a.cfg.Timeout)
 	defer cancel()
-	q := &request{w: w, r: r, ctx: ctx, names: to.names, bodyTime: a.cfg.Knobs.BodyTime}
-	q.limitWrite()
+	q := &request{w: w, r: r, ctx: ctx, api: a, names: to.names, isWatch: isWatch, caller: &caller{}, isRead: r.ContentLength == 0}
+	defer q.giveBack()
+	q.limitTimes()
+	setSafeHeaders(w.Header())
 	if err := a.answer(q, to); err != nil {
 		fail := failureOf(err)
 		a.refused.add(fail.Status)
 		q.fail(fail)
 	}
+	q.leaveBody()
+	return q
 }
 
 // answer answers a request that may be made.
 func (a *API) answer(q *request, to target) (err error) {
+	if err := a.checkOrigin(q.r); err != nil {
+		return err
+	}
 	if to.err != nil {
 		return to.err
 	}
-	route := to.route
-	if route.Role != Nobody { // (whoever watches whether this member is well may always ask)
-		if err := a.limitRate(q.r); err != nil {
+	if err := a.checkRights(q, to.route); err != nil {
+		return err
+	}
+	if q.r.Method == http.MethodPost || q.r.Method == http.MethodDelete { // (a page of elsewhere can't send this type unasked)
+		if _, err := isJSON(q.r, false); err != nil {
 			return err
 		}
 	}
-	if q.role, err = a.cfg.Rights.roleOf(q.r); err != nil && route.Role != Nobody {
-		return err
+	if q.most = to.route.Most; q.most == 0 && !q.isRead {
+		q.w.Header().Set("Connection", "close") // (else the body would be waited for before the answer is sent)
 	}
-	if q.role < route.Role {
-		return forbidden(route.Role)
+	return to.route.serve(q)
+}
+
+// checkRights refuses what a caller may not ask, or asks too often. Whoever watches whether this member is well may always ask.
+func (a *API) checkRights(q *request, route *Route) (err error) {
+	if route.Role != Nobody && !q.isWatch {
+		if err := a.limitRate(q.r); err != nil {
+			return err
+		}
+		if q.caller, err = a.cfg.Rights.callerOf(q.r); err != nil {
+			q.caller = &caller{}
+			return err
+		}
 	}
-	if name, isThere := q.names["book"]; isThere && !isName(name) {
+	if !q.isWatch {
+		if err := q.require(route.Role); err != nil {
+			return err
+		}
+	}
+	name, isOfBook := q.names["book"]
+	if isOfBook && !isName(name) {
 		return bad("the name of a book has 1 to %d letters, digits, '.', '_' and '-', and begins with one of the first two", mostName)
 	}
-	if q.query, err = readQuery(q.r, route.Query); err != nil {
+	if q.query, err = readQuery(q.r, route.Query); err != nil || route.Role == Nobody || q.isWatch {
 		return err
 	}
-	q.most = route.Most
-	return route.serve(q)
+	if isOfBook {
+		return q.requireBook(name)
+	}
+	return q.requireAll(route)
 }
 
 // A tally counts answers other than 200 by their statuses.
@@ -146,14 +205,18 @@ func (t *tally) counts() map[int]uint64 {
 
 // A request is one that is being answered: what it brings, and where the answer goes.
 type request struct {
-	w        http.ResponseWriter
-	r        *http.Request
-	ctx      context.Context
-	role     Role
-	names    map[string]string // of the path
-	query    url.Values
-	most     int64 // bytes of the body
-	bodyTime time.Duration
+	w       http.ResponseWriter
+	r       *http.Request
+	ctx     context.Context
+	api     *API
+	isWatch bool // at the port for health and metrics
+	caller  *caller
+	takes   Role              // the right that it takes
+	names   map[string]string // of the path
+	query   url.Values
+	most    int64 // bytes of the body
+	isRead  bool  // there is no more of the body
+	taken   int64 // bytes of the room for bodies
 }
 
 // isSet are the parameters that may come again.
@@ -188,45 +251,11 @@ func readQuery(r *http.Request, taken string) (url.Values, error) {
 	return query, nil
 }
 
-func (q *request) conn() net.Conn {
-	c, _ := q.r.Context().Value(connKey{}).(net.Conn)
-	return c
-}
-
-// limitWrite gives the client time to take what comes next.
-func (q *request) limitWrite() {
-	if c := q.conn(); c != nil {
-		c.SetWriteDeadline(time.Now().Add(writeTime))
-	}
-}
-
-// body reads the body, which has to come in time.
-func (q *request) body() ([]byte, error) { return q.bodyUpTo(q.most) }
-
-func (q *request) bodyUpTo(most int64) ([]byte, error) {
-	if q.r.ContentLength < 0 {
-		return nil, &failure{Status: http.StatusLengthRequired, Words: "the body has no length"}
-	}
-	if q.r.ContentLength > most {
-		q.w.Header().Set("Connection", "close")
-		return nil, tooLarge("body has", most)
-	}
-	if c := q.conn(); c != nil {
-		c.SetReadDeadline(time.Now().Add(q.bodyTime))
-		defer c.SetReadDeadline(time.Time{})
-	}
-	text, err := io.ReadAll(q.r.Body)
-	if errors.Is(err, os.ErrDeadlineExceeded) {
-		q.w.Header().Set("Connection", "close")
-		return nil, &failure{Status: http.StatusRequestTimeout, Words: "the body came too slowly"}
-	} else if err != nil {
-		return nil, bad("the body can't be read")
-	}
-	return text, nil
-}
-
 func (q *request) fail(fail *failure) {
 	fail.setHeaders(q.w.Header())
+	if !q.isRead {
+		q.w.Header().Set("Connection", "close") // (else what comes of the body would be waited for)
+	}
 	q.say(fail.Status, fail)
 }
 
@@ -244,8 +273,7 @@ func (q *request) write(status int, kind string, text []byte) {
 	header := q.w.Header()
 	header.Set("Content-Type", kind)
 	header.Set("Content-Length", strconv.Itoa(len(text)))
-	header.Set("X-Content-Type-Options", "nosniff")
-	header.Set("Cache-Control", "no-store")
+	q.limitWrite()
 	q.w.WriteHeader(status)
 	q.w.Write(text)
 }

@@ -108,10 +108,6 @@ func (c *calls) remove(q *request) error {
 	return q.say(http.StatusOK, bookResponse{Made: answer.Made, Opens: answer.Opens})
 }
 
-// forWorkers are the commands that the role of workers may call.
-var forWorkers = map[book.Kind]bool{book.Place: true, book.Place6: true, book.Drop: true, book.Lease: true, book.Next: true,
-	book.Done: true, book.Abandon: true}
-
 // A callResponse is the answer to a call, and an entry of a log.
 type callResponse struct {
 	Made    uint64 `json:"n,omitempty"`
@@ -135,8 +131,11 @@ func (c *calls) call(q *request) error {
 	if err != nil {
 		return err
 	}
-	if q.role < Operate && !forWorkers[item.Command.Kind] {
-		return forbidden(Operate)
+	if err := q.require(commandRole(item.Command.Kind)); err != nil {
+		return err
+	}
+	if err := q.requireWorker(item.Worker); err != nil {
+		return err
 	}
 	answer, err := c.answerOf(q, item)
 	if err != nil {

@@ -179,24 +179,18 @@ func isName(text string) bool {
 	return text != "" && len(text) <= mostName
 }
 
-// A createBody is the body that makes a book which begins in an image.
-type createBody struct {
-	Nodes string `json:"nodes"`
-	Image string `json:"image"`
-}
-
 // createOf is the item that makes a book: of a text of nodes, or of JSON with an image.
 func createOf(text []byte, name string, isJSON bool) (*state.Item, error) {
 	item := &state.Item{Action: state.Create, Book: name, Nodes: text}
 	if isJSON {
-		var body createBody
-		if err := decode(text, &body); err != nil {
+		texts, err := textsOf(text, "nodes", "image")
+		if err != nil {
 			return nil, err
 		}
-		if body.Image == "" {
+		if len(texts["image"]) == 0 {
 			return nil, bad("the field \"image\" is missing")
 		}
-		item.Nodes, item.Image = []byte(body.Nodes), []byte(body.Image)
+		item.Nodes, item.Image = texts["nodes"], texts["image"]
 	}
 	if len(item.Nodes) > mostNodes {
 		return nil, tooLarge("nodes have", mostNodes)

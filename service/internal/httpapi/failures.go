@@ -33,7 +33,10 @@ func (f *failure) setHeaders(header http.Header) {
 	switch f.Status {
 	case http.StatusUnauthorized:
 		header.Set("WWW-Authenticate", "Bearer")
-	case http.StatusTooManyRequests, http.StatusServiceUnavailable:
+	case http.StatusTooManyRequests:
+		header.Set("Retry-After", "1")
+		header.Set("Connection", "close") // (who asks too much may not keep a connection, too)
+	case http.StatusServiceUnavailable:
 		header.Set("Retry-After", "1")
 	}
 }

@@ -79,7 +79,7 @@ func (l *looks) books(q *request) error {
 		Opens uint64 `json:"opens"`
 	}
 	rows := []row{}
-	for _, name := range l.state.Names() {
+	for _, name := range (Scope{q.caller}).Books(l.state.Names()) {
 		err := l.state.Look(name, func(view *state.View) error {
 			rows = append(rows, row{name, view.Position.Made, view.Position.Opens})
 			return nil

@@ -2,7 +2,6 @@ package httpapi
 
 import (
 	"math"
-	"net"
 	"net/http"
 	"sync"
 	"time"
@@ -66,11 +65,7 @@ func (r *Rates) forget(now time.Time) {
 
 // limitRate refuses a request of an address that makes too many.
 func (a *API) limitRate(r *http.Request) error {
-	host, _, err := net.SplitHostPort(r.RemoteAddr)
-	if err != nil {
-		host = r.RemoteAddr
-	}
-	if !a.cfg.Rates.take(host) {
+	if !a.cfg.Rates.take(hostOf(r.RemoteAddr)) {
 		return &failure{Status: http.StatusTooManyRequests, Words: "too many requests come from this address"}
 	}
 	return nil

@@ -9,7 +9,7 @@ import (
 type Route struct {
 	Method  string
 	Pattern string // the path; a word of it in braces is a name
-	Role    Role   // the least that may ask
+	Role    Role   // what may ask: one right of it is enough
 	Most    int64  // bytes of its body; what a route without one is sent is not read
 	Query   string // the parameters that it takes
 	Timing  Timing
@@ -52,7 +52,7 @@ func (a *API) table() []Route {
 		{"GET", "/books/{book}/nodes", Look, 0, "now", Timed, looks.nodes},
 		{"PUT", "/books/{book}/nodes", Operate, mostNodes, "", Timed, calls.reopen},
 		{"GET", "/books/{book}/image", Look, 0, "now", Timed, looks.image},
-		{"POST", "/books/{book}/call", Work, mostCall, "", TimedByBook, calls.call},
+		{"POST", "/books/{book}/call", Work | Place | Operate, mostCall, "", TimedByBook, calls.call},
 		{"GET", "/books/{book}/peek", Look, 0, "now command session", Timed, looks.peek},
 		{"GET", "/books/{book}/stripes/{stripe}", Look, 0, "now format", Timed, looks.stripe},
 		{"GET", "/books/{book}/show/{view}", Look, 0, "now format", Timed, looks.show},
@@ -115,31 +115,45 @@ type target struct {
 	err    error
 }
 
-// find is what a request is for. One of another method than its path takes is counted as one of that path.
-func (a *API) find(r *http.Request) target {
-	path := strings.TrimPrefix(r.URL.Path, "/")
+// onWatch are the paths of the port for health and metrics.
+var onWatch = map[string]bool{"/health": true, "/metrics": true}
+
+// find is what a request is for. One of another method than its path takes is counted as one of that path. HEAD is GET without a body.
+func (a *API) find(r *http.Request, isWatch bool) target {
+	path, method := strings.TrimPrefix(r.URL.Path, "/"), r.Method
+	if method == http.MethodHead {
+		method = http.MethodGet
+	}
 	found := target{label: Other}
 	var methods []string
 	for i := range a.routes {
 		route := &a.routes[i]
-		if !route.match(path) {
+		if !route.match(path) || isWatch && !onWatch[route.Pattern] {
 			continue
 		}
 		if methods == nil {
 			found.names = route.names(path)
 			found.label, found.timing = route.label(found.names), route.Timing
 		}
-		if route.Method == r.Method {
+		if route.Method == method {
 			found.route = route
 			return found
 		}
 		methods = append(methods, route.Method)
 	}
-	if methods != nil {
-		allow := strings.Join(methods, ", ")
-		found.err = &failure{Status: http.StatusMethodNotAllowed, Words: "this takes " + allow, allow: allow}
-	} else {
-		found.err = &failure{Status: http.StatusNotFound, Words: "there is nothing at this path"}
-	}
+	found.err = noRoute(methods)
 	return found
+}
+
+// noRoute is why there is no route: its path takes other methods, or there is no such path.
+func noRoute(methods []string) error {
+	if methods == nil {
+		return &failure{Status: http.StatusNotFound, Words: "there is nothing at this path"}
+	}
+	allow := strings.Join(methods, ", ")
+	words := "this takes " + allow
+	if strings.Contains(allow, http.MethodGet) {
+		allow += ", " + http.MethodHead
+	}
+	return &failure{Status: http.StatusMethodNotAllowed, Words: words, allow: allow}
 }

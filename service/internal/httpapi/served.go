@@ -1,7 +1,10 @@
 package httpapi
 
 import (
+	"errors"
+	"fmt"
 	"net/http"
+	"runtime/debug"
 	"time"
 )
 
@@ -17,7 +20,8 @@ type Served struct {
 // noted notes the status with which an answer begins.
 type noted struct {
 	http.ResponseWriter
-	status int
+	status   int
+	hasBegun bool // before a fault
 }
 
 func (n *noted) WriteHeader(status int) {
@@ -40,27 +44,60 @@ type streamer struct {
 	http.Flusher
 }
 
-// ServeHTTP answers one request, and tells the observer of it.
-func (a *API) ServeHTTP(w http.ResponseWriter, r *http.Request) {
-	answer, begin, isOver := &noted{ResponseWriter: w}, time.Now(), false
-	to := a.find(r)
+// serve answers one request, and tells the observer and the audit of it.
+func (a *API) serve(w http.ResponseWriter, r *http.Request, isWatch bool) {
+	answer, begin := &noted{ResponseWriter: w}, time.Now()
+	to := a.find(r, isWatch)
 	if r.URL.RawQuery != "" && r.URL.Query().Get("follow") == "1" {
 		to.timing = NotTimed
 	}
 	defer func() {
-		if answer.status == 0 && isOver {
+		fault := recover()
+		if fault != nil {
+			a.noteFault(answer, to, fault)
+		} else if answer.status == 0 {
 			answer.status = http.StatusOK
-		} else if answer.status == 0 { // (it panicked)
-			answer.status = http.StatusInternalServerError
 		}
 		if a.cfg.Observe != nil {
 			a.cfg.Observe(Served{to.label, to.names["book"], to.timing, answer.status, time.Since(begin)})
 		}
+		if fault != nil && (answer.hasBegun || fault == http.ErrAbortHandler) {
+			panic(http.ErrAbortHandler) // (the connection is closed without a further line)
+		}
 	}()
+	q := a.answerIn(answerOf(w, answer), r, to, isWatch)
+	a.audit.note(q, answer.status, w.Header().Get("Lrcmand-Index"))
+}
+
+// answerOf is an answer that can be sent bit by bit, if that it is of can be.
+func answerOf(w http.ResponseWriter, answer *noted) http.ResponseWriter {
 	if flusher, ok := w.(http.Flusher); ok {
-		a.serve(streamer{answer, flusher}, r, to)
-	} else {
-		a.serve(answer, r, to)
+		return streamer{answer, flusher}
 	}
-	isOver = true
+	return answer
+}
+
+// noteFault logs what a handler panicked with, and answers if there is no answer yet.
+func (a *API) noteFault(answer *noted, to target, fault interface{}) {
+	if fault == http.ErrAbortHandler {
+		answer.status = http.StatusInternalServerError
+		return
+	}
+	a.faults.print(fmt.Sprintf("a fault at %s: %v\n%s", to.label, fault, debug.Stack()))
+	answer.hasBegun = answer.status != 0
+	if !answer.hasBegun {
+		answer.Header().Set("Connection", "close")
+		q := &request{w: answer, api: a, r: &http.Request{}}
+		q.fail(failureOf(errors.New("the service has a fault, which its log tells")))
+	}
+	answer.status = http.StatusInternalServerError
+}
+
+// setSafeHeaders keeps browsers from taking an answer for anything else than it is. (The page has a policy of its own)
+func setSafeHeaders(header http.Header) {
+	header.Set("X-Content-Type-Options", "nosniff")
+	header.Set("Referrer-Policy", "no-referrer")
+	header.Set("X-Frame-Options", "DENY")
+	header.Set("Content-Security-Policy", "default-src 'none'; frame-ancestors 'none'")
+	header.Set("Cache-Control", "no-store")
 }

@@ -55,23 +55,6 @@ func mountAt(path string, answer http.HandlerFunc) Mount {
 	return Mount{Route{Method: "GET", Pattern: path, Timing: NotTimed}, answer}
 }
 
-func TestAHandlerThatPanicsIsToldOf(t *testing.T) {
-	a, found := observed(mountAt("/panic", func(http.ResponseWriter, *http.Request) { panic("no") }),
-		mountAt("/nothing", func(http.ResponseWriter, *http.Request) {}))
-	func() {
-		defer func() {
-			if recover() == nil {
-				t.Error("the panic is lost")
-			}
-		}()
-		a.ServeHTTP(httptest.NewRecorder(), httptest.NewRequest("GET", "/panic", nil))
-	}()
-	a.ServeHTTP(httptest.NewRecorder(), httptest.NewRequest("GET", "/nothing", nil))
-	if want := []Served{{"/panic", "", NotTimed, 500, 0}, {"/nothing", "", NotTimed, 200, 0}}; !reflect.DeepEqual(*found, want) {
-		t.Errorf("%+v, and not %+v", *found, want)
-	}
-}
-
 func TestAnswersAreSentBitByBit(t *testing.T) {
 	a, found := observed(mountAt("/events", func(w http.ResponseWriter, r *http.Request) { w.(http.Flusher).Flush() }))
 	recorder := httptest.NewRecorder()

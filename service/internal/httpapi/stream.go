@@ -43,9 +43,10 @@ func (l *logs) answer(q *request) error {
 		return err
 	}
 	q.w.Header().Set("Content-Type", "application/x-ndjson")
-	q.w.Header().Set("Cache-Control", "no-store")
 	q.w.WriteHeader(http.StatusOK)
-	l.stream(q, from, first)
+	if q.r.Method != http.MethodHead {
+		l.stream(q, from, first)
+	}
 	return nil
 }
 

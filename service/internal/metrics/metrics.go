@@ -18,6 +18,7 @@ import (
 
 	"lrcman/service/internal/book"
 	"lrcman/service/internal/engine"
+	"lrcman/service/internal/httpapi"
 	"lrcman/service/internal/survey"
 )
 
@@ -100,6 +101,11 @@ func (m *Metrics) noteCall(name string, took time.Duration) {
 
 // Registry has all metrics.
 func (m *Metrics) Registry() *prometheus.Registry { return m.registry }
+
+// ConnectionsOf adds metrics of the connections at the port for clients. It is called before the metrics are told.
+func (m *Metrics) ConnectionsOf(counts func() httpapi.ConnectionCounts) {
+	m.registry.MustRegister(&connections{counts})
+}
 
 // A collector makes the metrics of the group and of books when they are asked for.
 type collector struct{ Sources }

@@ -14,6 +14,7 @@ import (
 	"testing"
 
 	"lrcman/service/internal/engine"
+	"lrcman/service/internal/httpapi"
 	"lrcman/service/internal/survey/recorded"
 	"lrcman/service/internal/testbrowser"
 )
@@ -29,7 +30,7 @@ func serveOnce(t *testing.T, p *Page, token string) *store {
 	t.Helper()
 	return serveEvents(t, p, func(w http.ResponseWriter, r *http.Request, _ int32) {
 		if token != "" && r.Header.Get("Authorization") != "Bearer "+token {
-			refuse(w, http.StatusUnauthorized, "no token")
+			httpapi.Refuse(w, http.StatusUnauthorized, "no token")
 			return
 		}
 		sendOne(p, w, r)
@@ -201,7 +202,7 @@ func TestAPageWithoutContactOrLeaderSaysSo(t *testing.T) {
 	p.Status = func() engine.Status { return engine.Status{ID: 2, Term: 8} }
 	dom := serveEvents(t, p, func(w http.ResponseWriter, r *http.Request, asked int32) {
 		if asked > 1 {
-			refuse(w, http.StatusServiceUnavailable, "this member has <ended>")
+			httpapi.Refuse(w, http.StatusServiceUnavailable, "this member has <ended>")
 			return
 		}
 		sendOne(p, w, r)

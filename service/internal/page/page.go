@@ -90,29 +90,17 @@ func sumOf(element string) string {
 func (p *Page) Page(w http.ResponseWriter, r *http.Request) {
 	if r.Method != http.MethodGet && r.Method != http.MethodHead {
 		w.Header().Set("Allow", "GET, HEAD")
-		refuse(w, http.StatusMethodNotAllowed, "the page can only be read")
+		httpapi.Refuse(w, http.StatusMethodNotAllowed, "the page can only be read")
 		return
 	}
 	head := w.Header()
 	head.Set("Content-Type", "text/html; charset=utf-8")
 	head.Set("Content-Security-Policy", policy)
-	head.Set("X-Content-Type-Options", "nosniff")
-	head.Set("Referrer-Policy", "no-referrer")
 	head.Set("Cache-Control", "no-cache")
 	head.Set("Content-Length", strconv.Itoa(len(page)))
 	if r.Method == http.MethodGet {
 		w.Write(page) // (the client may be gone)
 	}
-}
-
-func refuse(w http.ResponseWriter, status int, words string) {
-	text, err := json.Marshal(map[string]interface{}{"status": status, "error": words})
-	if err != nil {
-		text = nil
-	}
-	w.Header().Set("Content-Type", "application/json")
-	w.WriteHeader(status)
-	w.Write(append(text, '\n')) // (the client may be gone)
 }
 
 // A Member is how this member sees its group.
@@ -143,9 +131,9 @@ type BookEvent struct {
 	Last       []survey.Line  `json:"last"`
 }
 
-func (p *Page) event(name string) ([]byte, error) {
+func (p *Page) event(name string, scope httpapi.Scope) ([]byte, error) {
 	status := p.Status()
-	event := Event{Books: p.Watcher.Names(), Member: Member{status.ID, status.Leader, status.Term, status.Commit, status.Applied,
+	event := Event{Books: scope.Books(p.Watcher.Names()), Member: Member{status.ID, status.Leader, status.Term, status.Commit, status.Applied,
 		append([]engine.Member{}, status.Members...)}}
 	if name != "" {
 		report, err := p.Watcher.Report(name)
@@ -168,10 +156,11 @@ func (p *Page) bookEvent(r *survey.Report) *BookEvent {
 	return event
 }
 
-// text is the event of a book, made at most once in a while for all streams.
-func (p *Page) text(name string) ([]byte, error) {
+// text is the event of a book, made at most once in a while for all streams that may be told of the same books.
+func (p *Page) text(name string, scope httpapi.Scope) ([]byte, error) {
+	key := name + " " + scope.String()
 	p.mu.Lock()
-	k := p.cached[name]
+	k := p.cached[key]
 	if k == nil {
 		k = &cachedEvent{}
 	}
@@ -181,13 +170,13 @@ func (p *Page) text(name string) ([]byte, error) {
 	if k.text != nil && time.Since(k.made) < each/2 {
 		return k.text, nil
 	}
-	text, err := p.event(name)
+	text, err := p.event(name, scope)
 	if err != nil {
 		return nil, err
 	}
 	k.text, k.made = text, time.Now()
 	p.mu.Lock()
-	p.cached[name] = k // (only of a book that there is)
+	p.cached[key] = k // (only of a book that there is)
 	p.mu.Unlock()
 	return text, nil
 }
@@ -196,36 +185,36 @@ func (p *Page) text(name string) ([]byte, error) {
 func (p *Page) Events(w http.ResponseWriter, r *http.Request) {
 	name, err := p.bookOf(r)
 	if err != nil {
-		refuse(w, http.StatusBadRequest, err.Error())
+		httpapi.Refuse(w, http.StatusBadRequest, err.Error())
 		return
 	}
 	flusher, ok := w.(http.Flusher)
-	if r.Method != http.MethodGet || !ok {
-		w.Header().Set("Allow", "GET")
-		refuse(w, http.StatusMethodNotAllowed, "events can only be read")
+	if r.Method != http.MethodGet && r.Method != http.MethodHead || !ok {
+		w.Header().Set("Allow", "GET, HEAD")
+		httpapi.Refuse(w, http.StatusMethodNotAllowed, "events can only be read")
 		return
 	}
 	select {
 	case p.streams <- struct{}{}:
 		defer func() { <-p.streams }()
 	default:
-		refuse(w, http.StatusTooManyRequests, fmt.Sprintf("there are %d streams of events already", cap(p.streams)))
+		httpapi.Refuse(w, http.StatusTooManyRequests, fmt.Sprintf("there are %d streams of events already", cap(p.streams)))
 		return
 	}
-	text, err := p.text(name)
+	scope := httpapi.ScopeOf(r)
+	text, err := p.text(name, scope)
 	if errors.Is(err, state.ErrNoBook) {
-		refuse(w, http.StatusNotFound, "there is no book "+name)
+		httpapi.Refuse(w, http.StatusNotFound, "there is no book "+name)
 		return
 	} else if err != nil {
-		refuse(w, http.StatusInternalServerError, err.Error())
+		httpapi.Refuse(w, http.StatusInternalServerError, err.Error())
 		return
 	}
 	w.Header().Set("Content-Type", "text/event-stream")
-	w.Header().Set("Cache-Control", "no-store")
 	w.Header().Set("X-Accel-Buffering", "no")
 	s := &stream{w: w, flusher: flusher}
-	if s.send(text) == nil {
-		p.follow(r, name, s)
+	if r.Method != http.MethodHead && s.send(text) == nil {
+		p.follow(r, name, scope, s)
 	}
 }
 
@@ -239,13 +228,18 @@ func (p *Page) bookOf(r *http.Request) (string, error) {
 	if name := r.URL.Query().Get("book"); name != "" {
 		return name, nil
 	}
-	if names := p.Watcher.Names(); len(names) > 0 {
-		return names[0], nil
-	}
-	return "", nil
+	return p.first(httpapi.ScopeOf(r)), nil
 }
 
-func (p *Page) follow(r *http.Request, name string, s *stream) {
+// first is the first book that may be told of, or "".
+func (p *Page) first(scope httpapi.Scope) string {
+	if names := scope.Books(p.Watcher.Names()); len(names) > 0 {
+		return names[0]
+	}
+	return ""
+}
+
+func (p *Page) follow(r *http.Request, name string, scope httpapi.Scope, s *stream) {
 	ticker := time.NewTicker(each)
 	defer ticker.Stop()
 	for {
@@ -257,11 +251,9 @@ func (p *Page) follow(r *http.Request, name string, s *stream) {
 		case <-ticker.C:
 		}
 		if name == "" { // the first book may have come
-			if names := p.Watcher.Names(); len(names) > 0 {
-				name = names[0]
-			}
+			name = p.first(scope)
 		}
-		text, err := p.text(name)
+		text, err := p.text(name, scope)
 		if err != nil || s.send(text) != nil {
 			return
 		}

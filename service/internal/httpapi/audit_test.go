@@ -1,0 +1,191 @@
+package httpapi
+
+import (
+	"fmt"
+	"log"
+	"net/http"
+	"net/http/httptest"
+	"reflect"
+	"regexp"
+	"strings"
+	"sync"
+	"testing"
+	"time"
+)
+
+// lines keep what is written to a log.
+type lines struct {
+	mu  sync.Mutex
+	all []string
+}
+
+func (l *lines) add(line string) {
+	l.mu.Lock()
+	defer l.mu.Unlock()
+	l.all = append(l.all, line)
+}
+
+func (l *lines) Write(text []byte) (int, error) {
+	l.add(string(text))
+	return len(text), nil
+}
+
+func (l *lines) take() []string {
+	l.mu.Lock()
+	defer l.mu.Unlock()
+	all := l.all
+	l.all = nil
+	return all
+}
+
+func TestWhatOperatorsAskIsWrittenDown(t *testing.T) {
+	said := &lines{}
+	s := newService(t, func(with *setup) { with.Audit = said.add })
+	said.take()
+	s.api.cfg.Rights = rightsOf(t, "operate "+operateToken+" name=ops\nwork "+workToken+" name=w1\nlook "+lookToken+"\n")
+	for _, it := range []struct {
+		method, path, body, token string
+		want                      string // the line, but for its time and address; "": there is none
+	}{
+		{"PUT", "/books/p1", nodes(4), operateToken, "name=ops method=PUT path=/books/p1 status=200"},
+		{"POST", "/books/p1/call", `{"command":"fail 1"}`, operateToken, "name=ops method=POST path=/books/p1/call status=200"},
+		{"POST", "/books/p1/call", `{"command":"fail 99"}`, operateToken, "name=ops method=POST path=/books/p1/call status=200"},
+		{"POST", "/snapshot", "", operateToken, "name=ops method=POST path=/snapshot status=503"},
+		{"GET", "/books", "", operateToken, ""},
+		{"POST", "/books/p1/call", `{"command":"next"}`, operateToken, ""},
+		{"POST", "/books/p1/call", `{"command":"next"}`, workToken, ""},
+		{"POST", "/books/p1/call", `{"command":"place 1"}`, workToken, "name=w1 method=POST path=/books/p1/call status=403"},
+		{"DELETE", "/books/p1", `{"at":0,"opens":1}`, lookToken, `name="" method=DELETE path=/books/p1 status=403`},
+		{"GET", "/books", "", "", `name="" method=GET path=/books status=401`},
+		{"GET", "/books/a%0atime=1%20name=x", "", "", `name="" method=GET path="/books/a%0atime=1%20name=x" status=401`},
+		{"GET", "/nothing", "", "", ""},
+		{"GET", "/health", "", "", ""},
+	} {
+		authorization := ""
+		if it.token != "" {
+			authorization = "Bearer " + it.token
+		}
+		s.ask(it.method, it.path, it.body, header("Authorization", authorization))
+		said := said.take()
+		if len(said) != map[bool]int{true: 0, false: 1}[it.want == ""] {
+			t.Errorf("%+v: %q", it, said)
+			continue
+		}
+		if it.want == "" {
+			continue
+		}
+		found := regexp.MustCompile(`^time=(\S+) (name=\S+) address=127\.0\.0\.1:\d+ (method=.* status=\d+) index=(\S+)$`).FindStringSubmatch(said[0])
+		if found == nil || found[2]+" "+found[3] != it.want {
+			t.Errorf("%+v: %q", it, said)
+			continue
+		}
+		if at, err := time.Parse(time.RFC3339Nano, found[1]); err != nil || time.Since(at) > time.Minute {
+			t.Errorf("%q: %v", said, err)
+		}
+	}
+}
+
+func TestRefusalsDoNotFillALog(t *testing.T) {
+	said := &lines{}
+	s := newService(t, func(with *setup) { with.Audit = said.add })
+	now := time.Unix(1000, 0)
+	s.api.audit.refused.rates.now = func() time.Time { return now }
+	s.api.cfg.Rights = rightsOf(t, "look "+lookToken+"\n")
+	said.take()
+	for i := 0; i < mostRefusals+7; i++ {
+		s.ask("GET", "/books", "")
+	}
+	if all := said.take(); len(all) != mostRefusals {
+		t.Errorf("%d lines", len(all))
+	}
+	now = now.Add(time.Second)
+	s.ask("GET", "/books", "")
+	if all := said.take(); len(all) != 1 || !strings.HasSuffix(all[0], " left_out=7") {
+		t.Errorf("%q", all)
+	}
+}
+
+func TestAFaultIsToldOnceAndAnswered(t *testing.T) {
+	said, found := &lines{}, []Served{}
+	s := newService(t, func(with *setup) {
+		with.Log = log.New(said, "", 0)
+		with.Observe = func(it Served) {
+			it.Took = 0
+			found = append(found, it)
+		}
+		with.Mounts = []Mount{mountAt("/panic", func(http.ResponseWriter, *http.Request) { panic("this can't be") }),
+			mountAt("/late", func(w http.ResponseWriter, _ *http.Request) {
+				w.Write([]byte("begun"))
+				w.(http.Flusher).Flush()
+				panic("later on")
+			}), mountAt("/nothing", func(http.ResponseWriter, *http.Request) {})}
+	})
+	found = nil
+	answer, fail := s.failed("GET", "/panic", "")
+	if fail.Status != 500 || fail.Code != "fault" || !answer.Close {
+		t.Errorf("%+v", fail)
+	}
+	if all := said.take(); len(all) != 1 || !strings.HasPrefix(all[0], "a fault at /panic: this can't be\n") || !strings.Contains(all[0], "audit_test.go") {
+		t.Errorf("%q", all)
+	}
+	if answer, err := http.Get(s.url + "/late"); err == nil {
+		if _, err := fmt.Fscanln(answer.Body); err == nil {
+			t.Error("what was broken off looks whole")
+		}
+	}
+	if all := said.take(); len(all) != 1 || !strings.HasPrefix(all[0], "a fault at /late: later on\n") {
+		t.Errorf("%q", all)
+	}
+	s.ask("GET", "/nothing", "")
+	want := []Served{{"/panic", "", NotTimed, 500, 0}, {"/late", "", NotTimed, 500, 0}, {"/nothing", "", NotTimed, 200, 0}}
+	if !reflect.DeepEqual(found, want) {
+		t.Errorf("%+v, and not %+v", found, want)
+	}
+	for i := 0; i < 20; i++ {
+		s.ask("GET", "/panic", "")
+	}
+	if all := said.take(); len(all) > mostFaults {
+		t.Errorf("%d lines", len(all))
+	}
+}
+
+func TestTheServerTellsItsFaults(t *testing.T) {
+	said := &lines{}
+	s := newService(t, func(with *setup) { with.Log = log.New(said, "", 0) })
+	for i := 0; i < 20; i++ {
+		s.api.Server().ErrorLog.Printf("http: TLS handshake error from x: EOF")
+	}
+	if all := said.take(); len(all) == 0 || len(all) > 2*mostFaults || all[0] != "http: TLS handshake error from x: EOF\n" {
+		t.Errorf("%q", all)
+	}
+}
+
+func TestHeadIsGetWithoutABody(t *testing.T) {
+	s := newService(t, func(with *setup) {
+		with.Mounts = []Mount{mountAt("/", func(w http.ResponseWriter, _ *http.Request) { w.Write([]byte("page")) })}
+	})
+	for _, path := range []string{"/", "/health", "/books", "/books/p0", "/books/p0/image", "/books/p0/log", "/books/p0/log?follow=1", "/books/p9", "/nothing"} {
+		begun := time.Now()
+		head, text := s.ask("HEAD", path, "")
+		if text != "" || time.Since(begun) > 5*time.Second {
+			t.Errorf("%s: %q", path, text)
+		}
+		if strings.Contains(path, "follow") {
+			continue
+		}
+		get, _ := s.ask("GET", path, "")
+		if head.StatusCode != get.StatusCode || head.Header.Get("Content-Type") != get.Header.Get("Content-Type") ||
+			head.Header.Get("Lrcmand-Entries") != get.Header.Get("Lrcmand-Entries") {
+			t.Errorf("%s: %d %v, and with GET %d %v", path, head.StatusCode, head.Header, get.StatusCode, get.Header)
+		}
+	}
+	answer, _ := s.ask("HEAD", "/books/p0/call", "")
+	if answer.StatusCode != 405 || answer.Header.Get("Allow") != "POST" {
+		t.Error(answer.StatusCode, answer.Header)
+	}
+	recorder := httptest.NewRecorder()
+	s.api.ServeHTTP(recorder, httptest.NewRequest("OPTIONS", "/books/p0", nil))
+	if recorder.Code != 405 || recorder.Header().Get("Allow") != "PUT, DELETE, GET, HEAD" {
+		t.Error(recorder.Code, recorder.Header())
+	}
+}

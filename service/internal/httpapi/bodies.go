@@ -1,0 +1,128 @@
+package httpapi
+
+import (
+	"errors"
+	"io"
+	"net"
+	"net/http"
+	"os"
+	"sync"
+	"time"
+)
+
+// The room for bodies.
+const (
+	roomOfBodies = 64 << 20 // bytes, for all bodies at once
+	roomOfCalls  = 8 << 20  // of these for bodies that are no longer than a call, so that texts don't hold up calls
+	costOfByte   = 2        // bytes that one of a body takes: in the body, and in the entry that is made of it
+)
+
+// A room is what all bodies together may take, from before they are read until their requests are answered.
+type room struct {
+	mu    sync.Mutex
+	taken int64
+}
+
+// take takes room for a body, if there is so much left.
+func (o *room) take(cost int64, isCall bool) bool {
+	most := int64(roomOfBodies)
+	if !isCall {
+		most -= roomOfCalls
+	}
+	o.mu.Lock()
+	defer o.mu.Unlock()
+	if o.taken+cost > most {
+		return false
+	}
+	o.taken += cost
+	return true
+}
+
+func (o *room) giveBack(cost int64) {
+	o.mu.Lock()
+	defer o.mu.Unlock()
+	o.taken -= cost
+}
+
+func (q *request) giveBack() { q.api.bodies.giveBack(q.taken) }
+
+func (q *request) conn() net.Conn {
+	c, _ := q.r.Context().Value(connKey{}).(net.Conn)
+	return c
+}
+
+// limitTimes gives the client time to take what comes next, and to send the body, whoever reads it.
+func (q *request) limitTimes() {
+	q.limitWrite()
+	if c := q.conn(); c != nil && !q.isRead {
+		c.SetReadDeadline(time.Now().Add(q.api.cfg.Knobs.BodyTime))
+	}
+}
+
+// limitWrite gives the client time to take what comes next.
+func (q *request) limitWrite() {
+	if c := q.conn(); c != nil {
+		c.SetWriteDeadline(time.Now().Add(q.api.cfg.Knobs.WriteTime))
+	}
+}
+
+// body reads the body, which has to come in time.
+func (q *request) body() ([]byte, error) { return q.bodyUpTo(q.most) }
+
+func (q *request) bodyUpTo(most int64) ([]byte, error) {
+	length := q.r.ContentLength
+	if length < 0 {
+		return nil, &failure{Status: http.StatusLengthRequired, Words: "the body has no length"}
+	}
+	if length > most {
+		return nil, tooLarge("body has", most)
+	}
+	if !q.api.bodies.take(length*costOfByte, length <= mostCall) {
+		return nil, &failure{Status: http.StatusServiceUnavailable, Code: "busy", Words: "too many bytes of other requests are being read"}
+	}
+	q.taken += length * costOfByte
+	return q.read(length)
+}
+
+// read reads so many bytes. A connection may be closed for another one meanwhile.
+func (q *request) read(length int64) ([]byte, error) {
+	text := make([]byte, length)
+	q.enter(receiving)
+	_, err := io.ReadFull(q.r.Body, text)
+	q.enter(answering)
+	if errors.Is(err, os.ErrDeadlineExceeded) {
+		return nil, &failure{Status: http.StatusRequestTimeout, Words: "the body came too slowly"}
+	} else if err != nil {
+		return nil, bad("the body can't be read")
+	}
+	q.isRead = true
+	if c := q.conn(); c != nil {
+		c.SetReadDeadline(time.Time{}) // (what is read from now on is whether the client is still there)
+	}
+	return text, nil
+}
+
+func (q *request) enter(now stage) {
+	if c := q.conn(); c != nil {
+		q.connections().enter(c, now)
+	}
+}
+
+func (q *request) connections() *Connections {
+	if q.isWatch {
+		return q.api.cfg.Watchers
+	}
+	return q.api.cfg.Connections
+}
+
+// leaveBody ends a connection whose request has a body that nobody read: it is answered, and what still comes is passed over until
+// the deadline of the body.
+func (q *request) leaveBody() {
+	if q.isRead {
+		return
+	}
+	if flusher, ok := q.w.(http.Flusher); ok {
+		flusher.Flush()
+	}
+	q.enter(receiving)
+}
