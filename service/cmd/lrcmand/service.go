@@ -86,8 +86,8 @@ func shutGate(why *reason) *gate {
 
 func newService(o *options, logger *logging.Logger, node engine.Engine, books *state.State, knobs replica.Knobs, ports *ports) *service {
 	s := &service{options: o, log: logger, engine: node, ports: ports}
-	r := replica.New(replica.Config{Engine: node, State: books, Timeout: o.timeout, Tick: o.tickTime(), Log: logger.Std(logging.Info),
-		Knobs: knobs})
+	r := replica.New(replica.Config{Engine: node, State: books, Timeout: o.timeout, Election: o.election, Tick: o.tickTime(),
+		Log: logger.Std(logging.Info), Knobs: knobs})
 	s.monitoring = newMonitoring(node, books, o.data)
 	s.monitoring.metrics.ConnectionsOf(ports.connections.Counts)
 	s.api = httpapi.New(httpapi.Config{Engine: node, State: books, Replica: r, Rights: o.rights, Hosts: o.allHosts(node), Rates: o.rates(),

@@ -70,7 +70,8 @@ var (
 	ErrRemoved = errors.New("this member was removed from its group")
 	// ErrDamaged says that a snapshot is not as it was written.
 	ErrDamaged = errors.New("the snapshot is damaged")
-	// ErrBusy says that a snapshot is being written already.
+	// ErrBusy says that nothing was begun: a snapshot is being written already, or so much waits to be committed that no more
+	// is taken.
 	ErrBusy = errors.New("a snapshot is being written")
 )
 
@@ -90,7 +91,8 @@ func (e *NotLeader) Error() string {
 
 // An Engine is a log, kept alike by the members of a group, that drives a machine.
 type Engine interface {
-	// Propose brings a payload into the log, and returns what Apply told on this member.
+	// Propose brings a payload into the log, and returns what Apply told on this member. The error is ErrNoLeader or ErrBusy if
+	// nothing was proposed, at once; ErrOutcomeUnknown if the leader was lost or the context ended meanwhile.
 	Propose(ctx context.Context, payload []byte) (interface{}, error)
 	// Barrier returns when this member has applied all that any member told before Barrier was called.
 	Barrier(ctx context.Context) error
@@ -110,7 +112,7 @@ type Engine interface {
 	// context ends before.
 	LeadAway(ctx context.Context) error
 	// Snapshot begins to write one now.
-	Snapshot() error
+	Snapshot(ctx context.Context) error
 	// Done is closed when the engine has ended, by Close or by itself, and Err says why; nil after Close.
 	Done() <-chan struct{}
 	Err() error

@@ -119,7 +119,7 @@ func (g *group) lead(q *request) error {
 }
 
 func (g *group) snapshot(q *request) error {
-	if err := g.engine.Snapshot(); err != nil {
+	if err := g.engine.Snapshot(q.ctx); err != nil {
 		return err
 	}
 	return g.status(q)

@@ -61,7 +61,7 @@ func TestRolesAllowWhatThePageSays(t *testing.T) {
 		{"PUT", "/books/p0/nodes", nodes(5), 403, 403, 403, 403, 200},
 		{"PUT", "/members/2", `{"peer":"h:1","client":"h:2"}`, 403, 403, 403, 403, 200},
 		{"DELETE", "/members/2", "", 403, 403, 403, 403, 504},
-		{"DELETE", "/books/p1", `{"at":0,"opens":1}`, 403, 403, 403, 403, 200},
+		{"DELETE", "/books/p1", `{"at":0,"opens":27648}`, 403, 403, 403, 403, 200},
 		{"POST", "/leader/1", "", 403, 403, 403, 403, 200},
 		{"POST", "/snapshot", "", 403, 403, 403, 403, 503},
 	} {
@@ -129,11 +129,11 @@ func TestRightsAreOfBooks(t *testing.T) {
 		with.Mounts = []Mount{{Route{Method: "GET", Pattern: "/events", Role: Look, Query: "book"}, events},
 			{Route{Method: "GET", Pattern: "/metrics", Role: Look}, events}}
 	})
-	s.expect("PUT", "/books/p1", nodes(4), 200, `{"n":0,"opens":1}`)
+	s.expect("PUT", "/books/p1", nodes(4), 200, `{"n":0,"opens":2048}`)
 	s.api.cfg.Rights = rightsOf(t, "look aaaaaaaaaaaaaaaa books=p1,q*\noperate bbbbbbbbbbbbbbbb books=p1\n")
 	looker, operator := bearer("aaaaaaaaaaaaaaaa"), bearer("bbbbbbbbbbbbbbbb")
 	_, text := s.ask("GET", "/books", "", looker)
-	if strings.Contains(text, "p0") || !strings.Contains(text, `"books":[{"name":"p1","n":0,"opens":1}]`) {
+	if strings.Contains(text, "p0") || !strings.Contains(text, `"books":[{"name":"p1","n":0,"opens":2048}]`) {
 		t.Error(text)
 	}
 	for _, path := range []string{"/books/p0", "/books/p0/nodes", "/books/p0/log", "/books/p9", "/events?book=p0"} {
@@ -149,7 +149,7 @@ func TestRightsAreOfBooks(t *testing.T) {
 	}
 	s.refused("GET", "/books/q9", "", 404, "no such book", looker)
 	s.refused("GET", "/metrics", "", 403, "this takes rights to all books", looker)
-	s.expect("POST", "/books/p1/call", `{"command":"tick"}`, 200, `{"n":1,"opens":1,"reply":"ticked 1 0","kind":"ticked","clock":1,"ended":0}`, operator)
+	s.expect("POST", "/books/p1/call", `{"command":"tick"}`, 200, `{"n":1,"opens":2048,"reply":"ticked 1 0","kind":"ticked","clock":1,"ended":0}`, operator)
 	s.refused("POST", "/books/p0/call", `{"command":"tick"}`, 403, "no rights to the book p0", operator)
 	s.refused("PUT", "/books/p2", nodes(4), 403, "no rights to the book p2", operator)
 	s.refused("PUT", "/members/2", `{"peer":"h:1","client":"h:2"}`, 403, "this takes rights to all books", operator)

@@ -49,6 +49,6 @@ func (u *rules) change(q *request) error {
 	if _, err := u.calls.answerOf(q, &state.Item{Action: state.ChangeRules, Rules: *body.Rules}); err != nil {
 		return err
 	}
-	u.calls.replica.SaveChange()
+	u.calls.replica.SaveChange(q.ctx)
 	return u.show(q)
 }

@@ -5,6 +5,8 @@ import (
 	"math"
 	"sync/atomic"
 	"time"
+
+	"lrcman/service/internal/engine"
 )
 
 // refresh asks now and then whether this member is up to date, so that looks can tell how old they may be.
@@ -13,7 +15,7 @@ func (r *Replica) refresh(ctx context.Context) {
 		asked, cancel := context.WithTimeout(context.Background(), r.cfg.Timeout)
 		r.Barrier(asked) // (if nobody answers, what looks tell grows older)
 		cancel()
-		r.SaveChange()
+		r.SaveChange(ctx)
 		select {
 		case <-time.After(freshTime):
 		case <-ctx.Done():
@@ -22,8 +24,12 @@ func (r *Replica) refresh(ctx context.Context) {
 	}
 }
 
-// Barrier waits until all that was told before is applied here, and notes from when that is.
+// Barrier waits until all that was told before is applied here, and notes from when that is. Where there has been no leader for
+// longer than an election it does not wait: another member may have one.
 func (r *Replica) Barrier(ctx context.Context) error {
+	if r.isLeaderless() {
+		return engine.ErrNoLeader
+	}
 	asked := int64(time.Since(r.begun))
 	if err := r.cfg.Engine.Barrier(ctx); err != nil {
 		return err
@@ -66,8 +72,8 @@ func (r *Replica) KeepsUp() bool {
 }
 
 // SaveChange begins to write a snapshot once the group is to go to other rules: a program with these begins in it.
-func (r *Replica) SaveChange() {
+func (r *Replica) SaveChange(ctx context.Context) {
 	if change := r.cfg.State.Change(); change.Asked > r.cfg.Engine.Status().Snapshot {
-		r.cfg.Engine.Snapshot() // (if one is being written already, the next call makes another)
+		r.cfg.Engine.Snapshot(ctx) // (if one is being written already, the next call makes another)
 	}
 }

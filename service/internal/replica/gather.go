@@ -2,6 +2,7 @@ package replica
 
 import (
 	"context"
+	"sync/atomic"
 	"time"
 
 	"lrcman/service/internal/engine"
@@ -11,7 +12,7 @@ import (
 const (
 	underWay  = 4                      // entries that are proposed at once, at most
 	holdTime  = 100 * time.Millisecond // in which an entry is told, or the next one is proposed beside it
-	ofEntry   = 512                    // items of an entry, at most
+	ofEntry   = 1024                   // items of an entry, at most: their places have 10 bits
 	bytesOf   = 512 << 10              // texts of an entry beyond which no item is added
 	retryTime = 10 * time.Millisecond
 )
@@ -23,117 +24,73 @@ func (r *Replica) gather(ctx context.Context) {
 	close(before)
 	for {
 		select {
-		case first := <-r.queue:
-			r.hold(ctx, before)
-			select {
-			case slots <- struct{}{}:
-			case <-ctx.Done():
-				return
-			}
-			told := make(chan struct{})
-			before = told
-			go func(batch []*pending) {
-				r.propose(batch)
-				close(told)
-				<-slots
-			}(r.batch(first))
+		case <-r.queue.some:
 		case <-ctx.Done():
 			return
 		}
+		if !r.hasLeader() {
+			r.waitForLeader(ctx)
+			continue
+		}
+		r.wait(ctx, nil, time.Duration(atomic.LoadInt64(&r.pause))-time.Since(r.begun))
+		r.wait(ctx, before, holdTime)
+		select {
+		case slots <- struct{}{}:
+		case <-ctx.Done():
+			return
+		}
+		told := make(chan struct{})
+		if e := r.queue.take(); e != nil {
+			before = told
+			go r.propose(e, told)
+		} else {
+			close(told)
+		}
+		go func() { // an entry that is not told for so long is perhaps lost: others need not wait for it
+			r.wait(ctx, told, r.cfg.Election)
+			<-slots
+		}()
 	}
 }
 
-// hold returns when an entry is told, or takes too long.
-func (r *Replica) hold(ctx context.Context, before <-chan struct{}) {
-	timer := time.NewTimer(holdTime)
+// wait returns when something has happened, but after some time at the latest.
+func (r *Replica) wait(ctx context.Context, happened <-chan struct{}, most time.Duration) {
+	if most <= 0 {
+		return
+	}
+	timer := time.NewTimer(most)
 	defer timer.Stop()
 	select {
-	case <-before:
+	case <-happened:
 	case <-timer.C:
 	case <-ctx.Done():
 	}
 }
 
-// batch takes what waits into one entry, but for those whose callers are gone. The removal of a book ends its entry: a snapshot
-// has the index of the entry alone, and what comes behind it has to be made.
-func (r *Replica) batch(first *pending) []*pending {
-	var batch []*pending
-	size := 0
-	for p := first; ; {
-		if p.take() {
-			batch = append(batch, p)
-			size += len(p.item.Nodes) + len(p.item.Image)
-		}
-		if len(batch) >= ofEntry || size >= bytesOf || isRemoval(batch) {
-			return batch
-		}
-		select {
-		case p = <-r.queue:
-		default:
-			return batch
-		}
+// waitForLeader lets items wait as long as an election may take. Then their callers are told, who may ask another member.
+func (r *Replica) waitForLeader(ctx context.Context) {
+	if r.isLeaderless() {
+		r.queue.refuse(engine.ErrNoLeader)
 	}
+	r.wait(ctx, nil, retryTime)
+	r.queue.wake()
 }
 
-// isRemoval tells whether the last item of an entry removes a book.
-func isRemoval(batch []*pending) bool {
-	return len(batch) > 0 && batch[len(batch)-1].item.Action == state.Remove
-}
-
-func (r *Replica) propose(batch []*pending) {
-	if len(batch) == 0 {
-		return // (all callers are gone)
-	}
-	items := make([]*state.Item, len(batch))
-	for i, p := range batch {
+// propose proposes an entry once, and tells what becomes of it.
+func (r *Replica) propose(e *entry, isTold chan<- struct{}) {
+	defer close(isTold)
+	defer e.cancel()
+	items := make([]*state.Item, len(e.items))
+	for i, p := range e.items {
 		items[i] = p.item
 	}
-	answers, err := r.proposeItems(items)
-	for i, p := range batch {
-		if p.err = err; err == nil {
-			p.answer = answers[i]
-		}
-		close(p.done)
+	told, err := r.cfg.Engine.Propose(e.ctx, r.cfg.State.Encode(items))
+	if err == nil {
+		r.queue.answer(e, told.([]state.Answer))
+		r.queue.wake()
+		return
 	}
-}
-
-// proposeItems proposes an entry until it is told. Where nothing was proposed it tries again. Where nobody knows, it does so
-// only if no item of the entry would be made twice by that.
-func (r *Replica) proposeItems(items []*state.Item) ([]state.Answer, error) {
-	ctx, cancel := context.WithTimeout(context.Background(), r.cfg.Timeout*9/10) // so that those who wait hear how it ended
-	defer cancel()
-	payload := r.cfg.State.Encode(items)
-	for isUnknown := false; ; {
-		told, err := r.cfg.Engine.Propose(ctx, payload)
-		if err == nil {
-			return told.([]state.Answer), nil
-		}
-		mayRepeat := err == engine.ErrNoLeader || err == engine.ErrOutcomeUnknown && areOnce(items)
-		if isUnknown = isUnknown || err == engine.ErrOutcomeUnknown; isUnknown {
-			err = engine.ErrOutcomeUnknown // (an earlier one may still be made)
-		}
-		if !mayRepeat || ctx.Err() != nil {
-			return nil, err
-		}
-		select {
-		case <-time.After(retryTime):
-		case <-r.cfg.Engine.Done():
-			return nil, err
-		}
-	}
-}
-
-// areOnce tells whether each of the items, if it comes twice, is made once.
-func areOnce(items []*state.Item) bool {
-	for _, item := range items {
-		switch item.Action {
-		case state.Call:
-			if item.Key == "" {
-				return false
-			}
-		case state.Reopen, state.Remove:
-			return false
-		}
-	}
-	return true
+	atomic.StoreInt64(&r.pause, int64(time.Since(r.begun)+retryTime))
+	r.queue.fail(e, err)
+	r.queue.wake()
 }

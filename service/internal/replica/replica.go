@@ -4,7 +4,6 @@ package replica
 
 import (
 	"context"
-	"errors"
 	"log"
 	"sync/atomic"
 	"time"
@@ -14,21 +13,19 @@ import (
 )
 
 const (
-	mayWait   = 4096        // items
+	mayWait   = 1000        // items that are in no entry
 	freshTime = time.Second // between two questions whether this member is up to date
 )
 
-// ErrFull says that an item was not taken, since too many wait.
-var ErrFull = errors.New("too many requests wait")
-
 // A Config says what a replica works on, and how.
 type Config struct {
-	Engine  engine.Engine
-	State   *state.State  // which the engine drives
-	Timeout time.Duration // of an item, and of a question whether this member is up to date
-	Tick    time.Duration // between two ticks by the leader; 0: never
-	Log     *log.Logger
-	Knobs   Knobs
+	Engine   engine.Engine
+	State    *state.State  // which the engine drives
+	Timeout  time.Duration // of an item of this member's own, and of a question whether this member is up to date
+	Election time.Duration // what waits for a leader longer than this is refused; 0: one second
+	Tick     time.Duration // between two ticks by the leader; 0: never
+	Log      *log.Logger
+	Knobs    Knobs
 }
 
 // Knobs are what tests, and a program that is built with the tag faulty, do otherwise. Those that are nil change nothing.
@@ -40,59 +37,94 @@ type Knobs struct {
 // A Replica is one member's books behind the log of its group.
 type Replica struct {
 	cfg   Config
-	queue chan *pending
+	queue *queue
 	begun time.Time
 	fresh int64 // atomic: nanoseconds from begun until a moment up to which all that was told is applied; 0: unknown
+	led   int64 // atomic: the same until this member last knew of a leader
+	pause int64 // atomic: the same until the next entry may be proposed, after one that was not
 }
 
 // New makes a replica. It answers once it runs.
 func New(cfg Config) *Replica {
-	return &Replica{cfg: cfg, queue: make(chan *pending, mayWait), begun: time.Now()}
+	if cfg.Election == 0 {
+		cfg.Election = time.Second
+	}
+	return &Replica{cfg: cfg, queue: newQueue(mayWait), begun: time.Now()}
 }
 
 // Run brings items into the log, ticks and asks how new the books are, until the context ends.
 func (r *Replica) Run(ctx context.Context) {
 	go r.refresh(ctx)
+	go r.watch(ctx)
 	if r.cfg.Tick > 0 {
 		go r.tick(ctx, r.cfg.Tick)
 	}
 	r.gather(ctx)
 }
 
-// A pending is an item that waits for its answer.
-type pending struct {
-	item   *state.Item
-	isLeft int32 // atomic: 0, or 1 once it is taken into an entry or its caller is gone, whichever was first
-	answer state.Answer
-	err    error
-	done   chan struct{}
-}
-
-func (p *pending) take() bool { return atomic.CompareAndSwapInt32(&p.isLeft, 0, 1) }
-
-// Do brings an item into the log and returns its answer. The error is ErrFull or engine.ErrNoLeader if nothing was proposed.
+// Do brings an item into the log and returns its answer. An item with a key is then first asked for now: it gets its Since. The
+// error is an *Unknown if nobody knows whether it was made. After any other one nothing was made.
 func (r *Replica) Do(ctx context.Context, item *state.Item) (state.Answer, error) {
-	if item.Key != "" && item.Since == 0 {
+	if item.Key != "" {
 		item.Since = r.cfg.Engine.Status().Applied
 	}
-	p := &pending{item: item, done: make(chan struct{})}
-	select {
-	case r.queue <- p:
-	default:
+	return r.do(ctx, newPending(item, item.Key != ""))
+}
+
+// DoSince does the same of an item whose client tells since when it asks.
+func (r *Replica) DoSince(ctx context.Context, item *state.Item) (state.Answer, error) {
+	return r.do(ctx, newPending(item, false))
+}
+
+func (r *Replica) do(ctx context.Context, p *pending) (state.Answer, error) {
+	if r.isLeaderless() {
+		return state.Answer{}, engine.ErrNoLeader
+	}
+	if !r.queue.add(p) {
 		return state.Answer{}, ErrFull
 	}
 	if r.cfg.Knobs.TellEarly != nil {
-		if answer, ok := r.cfg.Knobs.TellEarly(r.cfg.State, item); ok {
+		if answer, ok := r.cfg.Knobs.TellEarly(r.cfg.State, p.item); ok {
 			return answer, nil
 		}
 	}
 	select {
-	case <-p.done:
-		return p.answer, p.err
+	case it := <-p.told:
+		return it.answer, it.err
 	case <-ctx.Done():
-		if p.take() {
-			return state.Answer{}, engine.ErrNoLeader // it was never proposed
+		answer, err := r.queue.leave(p)
+		if err == ErrLate && !r.hasLeader() {
+			err = engine.ErrNoLeader
 		}
-		return state.Answer{}, engine.ErrOutcomeUnknown
+		return answer, err
+	case <-r.cfg.Engine.Done():
+		answer, err := r.queue.leave(p)
+		if err == ErrLate {
+			err = engine.ErrEnded
+		}
+		return answer, err
+	}
+}
+
+func (r *Replica) hasLeader() bool { return r.cfg.Engine.Status().Leader != 0 }
+
+// isLeaderless tells whether this member knows of no leader, and has not for longer than an election.
+func (r *Replica) isLeaderless() bool {
+	return time.Since(r.begun)-time.Duration(atomic.LoadInt64(&r.led)) > r.cfg.Election && !r.hasLeader()
+}
+
+// watch notes when this member knew of a leader.
+func (r *Replica) watch(ctx context.Context) {
+	check := time.NewTicker(r.cfg.Election / 8)
+	defer check.Stop()
+	for {
+		if r.hasLeader() {
+			atomic.StoreInt64(&r.led, int64(time.Since(r.begun)))
+		}
+		select {
+		case <-check.C:
+		case <-ctx.Done():
+			return
+		}
 	}
 }

@@ -2,6 +2,7 @@ package replica
 
 import (
 	"context"
+	"errors"
 	"fmt"
 	"io"
 	"log"
@@ -70,6 +71,15 @@ func (m *member) call(line string) {
 	}
 }
 
+// made is the number of entries of the book.
+func (m *member) made() (made uint64) {
+	m.Helper()
+	if err := m.state.Look("p0", func(view *state.View) error { made = view.Position.Made; return nil }); err != nil {
+		m.Fatal(err)
+	}
+	return made
+}
+
 // replies are the replies of the book, in order.
 func (m *member) replies() (found []string) {
 	m.Helper()
@@ -91,19 +101,6 @@ func (m *member) eventually(is func() bool) {
 	for end := time.Now().Add(20 * time.Second); !is(); time.Sleep(time.Millisecond) {
 		if time.Now().After(end) {
 			m.Fatal("it does not come")
-		}
-	}
-}
-
-// Whatever comes behind a removal stands in the next entry: a snapshot that lacks the book has the index of its entry alone.
-func TestARemovalEndsItsEntry(t *testing.T) {
-	r := New(Config{})
-	for _, action := range []state.Action{state.Call, state.Remove, state.Create} {
-		r.queue <- &pending{item: &state.Item{Action: action}}
-	}
-	for _, count := range []int{2, 1} {
-		if batch := r.batch(<-r.queue); len(batch) != count {
-			t.Errorf("%d items and not %d", len(batch), count)
 		}
 	}
 }
@@ -171,76 +168,44 @@ func TestManyCallsAtOnceAreAllAnsweredOnce(t *testing.T) {
 	}
 }
 
-// An item whose caller is gone before it was taken into an entry is never proposed, and an item beyond the room for those that
-// wait is not taken.
+// An item whose caller is gone before it was taken into an entry is never proposed and takes no room, and an item beyond the room
+// for those that wait is not taken.
 func TestWhatNobodyWaitsForIsNotProposed(t *testing.T) {
 	m := newMember(t, nil)
 	gone, cancel := context.WithCancel(context.Background())
 	cancel()
 	for i := 0; i < mayWait; i++ {
-		if _, err := m.replica.Do(gone, call("tick", "")); err != engine.ErrNoLeader {
+		if _, err := m.replica.Do(gone, call("tick", "")); err != ErrLate {
 			t.Fatal(err)
 		}
 	}
-	if _, err := m.replica.Do(gone, call("tick", "")); err != ErrFull {
+	waits, leave := context.WithCancel(context.Background())
+	for i := 0; i < mayWait; i++ {
+		go m.replica.Do(waits, call("tick", ""))
+	}
+	m.eventually(func() bool { return m.waiting() == mayWait })
+	if _, err := m.replica.Do(waits, call("tick", "")); err != ErrFull {
 		t.Error(err)
 	}
+	leave()
+	m.eventually(func() bool { return m.waiting() == 0 })
 	m.run()
-	m.eventually(func() bool { return len(m.replica.queue) == 0 })
 	m.call("place 1")
 	if replies := m.replies(); len(replies) != 1 || !strings.HasPrefix(replies[0], "placed ") {
 		t.Error(replies)
 	}
 }
 
-// lost makes the next proposals go wrong.
-func (m *member) lost(times int, isMade bool, wrong error) (proposals *int) {
-	proposals = new(int)
-	m.engine.Change(func(e *testengine.Local) {
-		e.Wrong = func([]byte) (bool, error) {
-			if *proposals++; *proposals <= times {
-				return isMade, wrong
-			}
-			return true, nil
+// What may be made twice is not proposed again once its fate is unknown: a book that was made, or removed, under a name meanwhile
+// would be another one.
+func TestWhatHasNoKeyIsNotProposedAgain(t *testing.T) {
+	for _, item := range []*state.Item{call("tick", ""), {Action: state.Create, Book: "p1", Nodes: nodes()}, {Action: state.Reopen, Book: "p0", Nodes: nodes()},
+		{Action: state.Remove, Book: "p0", At: &state.Position{Made: 0, Opens: 1}}, {Action: state.ChangeRules, Rules: 7}} {
+		m := newMember(t, nil).run()
+		asked := m.fated(lostWord)
+		if _, err := m.replica.Do(context.Background(), item); !errors.Is(err, engine.ErrOutcomeUnknown) || len(asked()) != 1 {
+			t.Errorf("%+v: %v, and it was proposed %d times", item, err, len(asked()))
 		}
-	})
-	return proposals
-}
-
-func TestAnItemIsProposedAgainWhereItIsMadeOnce(t *testing.T) {
-	m := newMember(t, nil).run()
-	for _, it := range []struct {
-		item   *state.Item
-		times  int
-		isMade bool
-		wrong  error
-		want   error
-		asked  int
-		made   int // the number of entries of the book then
-	}{
-		{call("tick", "a"), 2, true, engine.ErrOutcomeUnknown, nil, 3, 1},
-		{call("tick", "b"), 2, false, engine.ErrOutcomeUnknown, nil, 3, 2},
-		{call("tick", ""), 1, true, engine.ErrOutcomeUnknown, engine.ErrOutcomeUnknown, 1, 3}, // without a key it is not
-		{call("tick", ""), 2, false, engine.ErrNoLeader, nil, 3, 4},                           // nothing was made
-	} {
-		proposals := m.lost(it.times, it.isMade, it.wrong)
-		_, err := m.replica.Do(context.Background(), it.item)
-		if made := len(m.replies()); err != it.want || *proposals != it.asked || made != it.made {
-			t.Errorf("%+v: %v, %d proposals, %d entries", it, err, *proposals, made)
-		}
-	}
-}
-
-// A removal that perhaps was made is not made again: a book that was made under the name meanwhile would be removed.
-func TestARemovalIsNotTriedAgain(t *testing.T) {
-	m := newMember(t, nil).run()
-	proposals := m.lost(1000, true, engine.ErrOutcomeUnknown)
-	_, err := m.replica.Do(context.Background(), &state.Item{Action: state.Remove, Book: "p0", At: &state.Position{Made: 0, Opens: 1024}})
-	if err != engine.ErrOutcomeUnknown || *proposals != 1 {
-		t.Errorf("%v, and it was proposed %d times", err, *proposals)
-	}
-	if names := m.state.Names(); len(names) != 0 {
-		t.Error(names)
 	}
 }
 
@@ -263,6 +228,83 @@ func TestTheLeaderTicksBooksWithLeases(t *testing.T) {
 	if replies := m.replies(); len(replies) != 7 {
 		t.Errorf("of another leader: %v", replies)
 	}
+}
+
+// A new leader waits for a whole interval: a lease lasts longer, never shorter. And what was left out is not made up for.
+func TestNoTickComesEarly(t *testing.T) {
+	const every = 400 * time.Millisecond
+	m := newMember(t, func(cfg *Config) { cfg.Tick = every })
+	for _, line := range []string{"place 1", "fail 1", "next"} {
+		m.propose(call(line, ""))
+	}
+	m.engine.Change(func(e *testengine.Local) { e.Leader = 2 })
+	m.run()
+	time.Sleep(2 * every)
+	begun := time.Now()
+	m.engine.Change(func(e *testengine.Local) { e.Leader = 1 })
+	m.eventually(func() bool { return m.made() == 4 })
+	if took := time.Since(begun); took < every {
+		t.Errorf("a new leader ticks after %v", took)
+	}
+}
+
+// slowly is an engine that was stopped for a while at a proposal.
+type slowly struct {
+	engine.Engine
+	once sync.Once
+	stop time.Duration
+	woke chan time.Time
+}
+
+func (s *slowly) Propose(ctx context.Context, payload []byte) (interface{}, error) {
+	defer s.once.Do(func() {
+		time.Sleep(s.stop)
+		s.woke <- time.Now()
+	})
+	return s.Engine.Propose(ctx, payload)
+}
+
+func TestTicksAreNotMadeUpFor(t *testing.T) {
+	const every = 300 * time.Millisecond
+	var e *slowly
+	m := newMember(t, func(cfg *Config) {
+		e = &slowly{Engine: cfg.Engine, stop: 6 * every, woke: make(chan time.Time, 1)}
+		cfg.Engine, cfg.Tick = e, every
+	})
+	for _, line := range []string{"place 1", "fail 1", "next"} {
+		m.propose(call(line, ""))
+	}
+	m.run()
+	woke := <-e.woke // (a tick was made, and its answer is late)
+	m.eventually(func() bool { return m.made() >= 6 })
+	if took := time.Since(woke); took < every {
+		t.Errorf("two ticks in %v", took)
+	}
+}
+
+func (m *member) propose(item *state.Item) {
+	m.Helper()
+	if _, err := m.engine.Propose(context.Background(), m.state.Encode([]*state.Item{item})); err != nil {
+		m.Fatal(err)
+	}
+}
+
+// A look is as old as the question that found it new, and that takes a while.
+func TestTheAgeCountsFromBeforeTheQuestion(t *testing.T) {
+	m := newMember(t, func(cfg *Config) { cfg.Engine = lateAnswer{cfg.Engine} })
+	if err := m.replica.Barrier(context.Background()); err != nil {
+		t.Fatal(err)
+	}
+	if age := m.replica.Age(m.replica.Freshness()); age < 300 {
+		t.Errorf("%d ms old", age)
+	}
+}
+
+type lateAnswer struct{ engine.Engine }
+
+func (l lateAnswer) Barrier(ctx context.Context) error {
+	time.Sleep(300 * time.Millisecond)
+	return l.Engine.Barrier(ctx)
 }
 
 func TestBooksGrowOldWhereNobodyAnswers(t *testing.T) {
@@ -300,7 +342,7 @@ func TestBooksGrowOldWhereNobodyAnswers(t *testing.T) {
 // A program with other rules begins in a snapshot of after the request for them.
 func TestASnapshotIsAskedForOnceTheRulesAreToChange(t *testing.T) {
 	m := newMember(t, nil)
-	m.replica.SaveChange()
+	m.replica.SaveChange(context.Background())
 	if m.engine.Saved != 0 {
 		t.Error("without a change")
 	}

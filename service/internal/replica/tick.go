@@ -23,7 +23,7 @@ func (r *Replica) tick(ctx context.Context, every time.Duration) {
 		if leads := status.Leader == status.ID; !leads || !isLeader {
 			isLeader, since = leads, time.Now() // a new leader waits for a whole interval: a lease lasts longer, never shorter
 		} else if time.Since(since) >= every {
-			since = since.Add(every)
+			since = time.Now() // (ticks are not made up for: a member that was stopped would end young leases)
 			r.tickAll()
 		}
 	}

@@ -113,7 +113,7 @@ func (l *Local) Remove(_ context.Context, id uint64, isForced bool) (isAgain boo
 }
 
 // Snapshot is busy.
-func (l *Local) Snapshot() error {
+func (l *Local) Snapshot(context.Context) error {
 	l.mu.Lock()
 	defer l.mu.Unlock()
 	l.Saved++

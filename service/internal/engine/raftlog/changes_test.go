@@ -160,7 +160,7 @@ func TestANewLeaderGoesOnWithAPromotion(t *testing.T) {
 	g.must(adding(member))
 	first := g.leader()
 	for _, n := range g.nodes { // the wish is in snapshots too
-		if err := n.Snapshot(); err != nil {
+		if err := n.Snapshot(context.Background()); err != nil {
 			t.Fatal(err)
 		}
 	}
@@ -261,7 +261,7 @@ func TestAChangeIsMadeOnlyToTheMembersThatItWasJudgedBy(t *testing.T) {
 	if now := g.nodes[1].roster().changes; now != before+1 {
 		t.Errorf("%d changes, and not %d", now, before+1)
 	}
-	if err := g.nodes[1].Snapshot(); err != nil {
+	if err := g.nodes[1].Snapshot(context.Background()); err != nil {
 		t.Fatal(err)
 	}
 	eventually(t, "a snapshot is made", func() bool { return g.nodes[1].Status().Snapshot > 0 })

@@ -180,17 +180,40 @@ func (n *Node) startRaft(isOld bool) {
 func (n *Node) logFolder() string  { return filepath.Join(n.cfg.Dir, "wal") }
 func (n *Node) snapFolder() string { return filepath.Join(n.cfg.Dir, "snap") }
 
-// Propose may be called on any member: raft passes it on to the leader.
+// Propose may be called on any member: raft passes it on to the leader. Where there is none, raft itself would wait for the next
+// one, however long that takes, and whoever asked could not be told that nothing was made.
 func (n *Node) Propose(ctx context.Context, payload []byte) (interface{}, error) {
-	id, told := n.wait()
-	if err := n.raft.Propose(ctx, withID(id, payload)); err != nil {
-		n.forgetWaiting(id)
-		if err == raft.ErrProposalDropped {
-			return nil, engine.ErrNoLeader
-		}
-		return nil, engine.ErrOutcomeUnknown
+	if atomic.LoadUint64(&n.lead) == raft.None {
+		return nil, engine.ErrNoLeader
 	}
-	return n.outcome(ctx, id, told)
+	ctx, cancel := context.WithCancel(ctx)
+	defer cancel()
+	id, told := n.wait()
+	taken := make(chan error, 1)
+	go func() { taken <- n.raft.Propose(ctx, withID(id, payload)) }()
+	select {
+	case err := <-taken:
+		if err != nil {
+			n.forgetWaiting(id)
+			return nil, n.notTaken(err)
+		}
+		return n.outcome(ctx, id, told)
+	case outcome := <-told: // (it may be that the leader was lost before raft took it)
+		return outcome.told, outcome.err
+	}
+}
+
+// notTaken tells why raft did not take a proposal, or that nobody knows whether it did.
+func (n *Node) notTaken(err error) error {
+	if err != raft.ErrProposalDropped {
+		return engine.ErrOutcomeUnknown
+	}
+	status := n.raft.Status()
+	_, isMember := status.Progress[n.cfg.Self.ID]
+	if status.RaftState == raft.StateLeader && status.LeadTransferee == raft.None && isMember {
+		return engine.ErrBusy
+	}
+	return engine.ErrNoLeader
 }
 
 func (n *Node) wait() (uint64, chan outcome) {
@@ -249,12 +272,21 @@ func (n *Node) Status() engine.Status {
 		First: first, Members: n.sorted()}
 }
 
-// Snapshot begins to write one now.
-func (n *Node) Snapshot() error {
+// Snapshot begins to write one now. The loop may wait for the disk meanwhile.
+func (n *Node) Snapshot(ctx context.Context) error {
 	answer := make(chan error, 1)
 	select {
 	case n.snapshots <- answer:
-		return <-answer
+	case <-ctx.Done():
+		return engine.ErrBusy
+	case <-n.done:
+		return engine.ErrEnded
+	}
+	select {
+	case err := <-answer:
+		return err
+	case <-ctx.Done():
+		return engine.ErrBusy
 	case <-n.done:
 		return engine.ErrEnded
 	}

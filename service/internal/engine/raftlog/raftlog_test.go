@@ -281,7 +281,7 @@ func withSnapshots(t *testing.T) (Config, *said, []string) {
 		propose(t, n, text)
 		if i%15 == 14 {
 			before := n.Status().Snapshot
-			if err := n.Snapshot(); err != nil {
+			if err := n.Snapshot(context.Background()); err != nil {
 				t.Fatal(err)
 			}
 			eventually(t, "a snapshot is made", func() bool { return n.Status().Snapshot > before })
@@ -536,6 +536,7 @@ func TestAMachineThatCannotApplyEndsTheProcess(t *testing.T) {
 	if err != nil {
 		t.Fatal(err)
 	}
+	eventually(t, "it leads", func() bool { return n.Status().Leader == alone.ID })
 	go n.Propose(context.Background(), []byte("entry 1"))
 	select {
 	case err := <-fatal:
@@ -652,7 +653,7 @@ func TestAMemberThatWasAwayGetsASnapshot(t *testing.T) {
 	delete(g.nodes, away)
 	proposeAll(t, g.nodes[g.leader()], texts(2, 300))
 	for _, n := range g.nodes {
-		if err := n.Snapshot(); err != nil {
+		if err := n.Snapshot(context.Background()); err != nil {
 			t.Fatal(err)
 		}
 	}
@@ -863,7 +864,7 @@ func TestOneMemberGrowsToThree(t *testing.T) {
 	if _, err := n.Add(ctx, memberAt(t, 2), false); err == nil || !strings.Contains(err.Error(), "--peer") {
 		t.Fatal(err)
 	}
-	if err := n.Snapshot(); err != nil { // from before the others are added
+	if err := n.Snapshot(context.Background()); err != nil { // from before the others are added
 		t.Fatal(err)
 	}
 	eventually(t, "a snapshot is made", func() bool { return n.Status().Snapshot > 0 })

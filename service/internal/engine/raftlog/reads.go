@@ -14,16 +14,34 @@ import (
 // again is when a question for the read index that was not answered is asked anew.
 const again = 200 * time.Millisecond
 
-// patience is how long a read index may take.
-const patience = 5 * time.Second
-
-// A round is one read index, for all who came before it was asked for.
+// A round is one read index, for all who came before it was asked for. It is asked for as long as one of them waits.
 type round struct {
-	over chan struct{}
-	err  error
+	over    chan struct{}
+	err     error
+	waiting int // readers
+	ctx     context.Context
+	cancel  func()
 }
 
-func newRound() *round { return &round{over: make(chan struct{})} }
+func newRound() *round {
+	ctx, cancel := context.WithCancel(context.Background())
+	return &round{over: make(chan struct{}), ctx: ctx, cancel: cancel}
+}
+
+func (n *Node) joinRound() *round {
+	n.mu.Lock()
+	defer n.mu.Unlock()
+	n.round.waiting++
+	return n.round
+}
+
+func (n *Node) leaveRound(it *round) {
+	n.mu.Lock()
+	defer n.mu.Unlock()
+	if it.waiting--; it.waiting == 0 && it != n.round { // (others may still come to one that was not asked for)
+		it.cancel()
+	}
+}
 
 // An applyWaiter is a reader who waits until an index is applied.
 type applyWaiter struct {
@@ -33,9 +51,8 @@ type applyWaiter struct {
 
 // Barrier returns when this member has applied all that any member told before Barrier was called.
 func (n *Node) Barrier(ctx context.Context) error {
-	n.mu.Lock()
-	mine := n.round
-	n.mu.Unlock()
+	mine := n.joinRound()
+	defer n.leaveRound(mine)
 	select {
 	case n.readers <- struct{}{}:
 	default: // (somebody has woken the loop already)
@@ -60,25 +77,27 @@ func (n *Node) readLoop() {
 		n.mu.Lock()
 		now := n.round
 		n.round = newRound()
+		isAwaited := now.waiting > 0
 		n.mu.Unlock()
-		now.err = n.askMajority()
+		if isAwaited {
+			now.err = n.askMajority(now.ctx)
+		}
 		close(now.over)
+		now.cancel()
 	}
 }
 
-func (n *Node) askMajority() error {
+func (n *Node) askMajority(ctx context.Context) error {
 	if n.cfg.Knobs.AskMajority != nil {
 		return n.cfg.Knobs.AskMajority()
 	}
-	return n.readIndex()
+	return n.readIndex(ctx)
 }
 
 // readIndex asks the leader, who asks a majority whether it still is. Raft drops the question without a word where there is
 // no leader, or a new one that has committed nothing yet, or where a message is lost. So it is asked again, with another
 // number: an answer to an old question is an old answer.
-func (n *Node) readIndex() error {
-	ctx, cancel := context.WithTimeout(context.Background(), patience)
-	defer cancel()
+func (n *Node) readIndex(ctx context.Context) error {
 	for ctx.Err() == nil {
 		id, answer := n.numbers.next(), make(chan uint64, 1)
 		n.mu.Lock()
@@ -95,6 +114,8 @@ func (n *Node) readIndex() error {
 			timer.Stop()
 			return n.waitApplied(ctx, index)
 		case <-timer.C:
+		case <-ctx.Done():
+			timer.Stop()
 		case <-n.done:
 			timer.Stop()
 			return engine.ErrEnded
