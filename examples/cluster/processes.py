@@ -110,7 +110,7 @@ class Store:
     def start_members(self):
         """Starts lrcmand, and makes the book."""
         group = ",".join(f"{number}=127.0.0.1:{peer}/127.0.0.1:{client}" for number, (peer, client) in self.members.items())
-        words = ["--members", group] if len(self.members) > 1 else []
+        words = ["--new", "--members", group] if len(self.members) > 1 else []
         for number, (_, client) in self.members.items():
             place = ["--data", f"{self.folder}/member-{number}", "--id", str(number), "--listen", f"127.0.0.1:{client}"]
             self.start(f"lrcmand-{number}", self.lrcmand, *place, "--tick", str(TICK), *words)

@@ -139,7 +139,7 @@ class Group:
 
     def start(self, member):
         if member.is_first:
-            member.start("--members", self.first, "--peer", f"127.0.0.1:{member.listen}")
+            member.start("--new", "--members", self.first, "--peer", f"127.0.0.1:{member.listen}")
         else:
             member.start("--join", "--peer", f"127.0.0.1:{member.peer}")
 

@@ -74,6 +74,15 @@ func TestTheCommandLineIsReadOrRefused(t *testing.T) {
 		"--data d --listen-metrics h:7420":                "--listen-metrics beyond loopback takes --trust-network",
 		"--data d --listen h:7421 --token-file " + tokens: "takes --cert and --key, or tokens are in the clear",
 
+		"--data d --join --new --peer [::1]:2":           "--new is for the first members",
+		"--data d --peer-name n":                         "--peer-name takes --peer-ca",
+		"--data d --peer-name":                           "flag needs an argument: -peer-name",
+		"--data d --peer [::1]:2 --token-file " + tokens: "--token-file and --client-ca take --peer-cert",
+
+		"--data d --peer [::1]:2 --peer-cert c --peer-key k --peer-ca a --peer-name x --peer-name y": "",
+		"--data d --peer [::1]:2 --trust-network --token-file " + tokens:                             "",
+		"--data d --id 2 --new --trust-network --members " + three:                                   "",
+
 		"--data d": "",
 		"--data d --listen 127.0.0.1:1 --peer [::1]:2 --tick 0":                         "",
 		"--data d --listen h:7421 --token-file " + tokens + " --trust-network":          "",
@@ -99,8 +108,8 @@ func TestTheCommandLineIsReadOrRefused(t *testing.T) {
 		t.Error(o, err)
 	}
 	one, err := parse([]string{"--data", "d", "--group", "a"})
-	if err != nil || one.config(logging.Nowhere()).Group == o.config(logging.Nowhere()).Group {
-		t.Error("two groups have one number")
+	if err != nil || one.config(nil).Name != "a" || one.config(nil).New {
+		t.Error(one, err)
 	}
 }
 

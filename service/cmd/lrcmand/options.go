@@ -4,7 +4,6 @@ import (
 	"errors"
 	"flag"
 	"fmt"
-	"hash/fnv"
 	"io"
 	"net"
 	"strings"
@@ -27,7 +26,8 @@ type options struct {
 	cert, key, clientCA                     string
 	peerCert, peerKey, peerCA               string
 	id, tick, snapshotEvery, trailing, rate uint64
-	join, trustNetwork, version             bool
+	isNew, join, trustNetwork, version      bool
+	peerNames                               several
 	logFormat, logLevel                     string
 	logging                                 logging.Config
 	election, timeout                       time.Duration
@@ -36,6 +36,22 @@ type options struct {
 	rights                                  *httpapi.Rights
 	listenMetrics, auditFile                string
 	hosts                                   hostNames
+}
+
+// patience is how long a member that has not begun waits for the others.
+const patience = 10 * time.Minute
+
+// several are the words of an option that may come again.
+type several []string
+
+func (w *several) String() string { return strings.Join(*w, ",") }
+
+func (w *several) Set(word string) error {
+	if word == "" {
+		return errors.New("it is empty")
+	}
+	*w = append(*w, word)
+	return nil
 }
 
 func parse(words []string) (*options, error) {
@@ -48,6 +64,7 @@ func parse(words []string) (*options, error) {
 	flags.Var(&o.hosts, "host", "`NAME`: a further name by which clients call this member; may come again")
 	flags.Uint64Var(&o.id, "id", 1, "`N`: number of this member")
 	flags.StringVar(&o.members, "members", "", "`N=PEER/CLIENT,..`: the first members, alike on all of them")
+	flags.BoolVar(&o.isNew, "new", false, "the first members begin a new group")
 	flags.StringVar(&o.peer, "peer", "", "`HOST:PORT`: address for the other members")
 	flags.BoolVar(&o.join, "join", false, "this member was added to a group that runs")
 	flags.StringVar(&o.group, "group", "lrcmand", "`NAME`: members of another group are refused")
@@ -65,6 +82,7 @@ func parse(words []string) (*options, error) {
 	flags.StringVar(&o.peerCert, "peer-cert", "", "`FILE`: certificate for the other members")
 	flags.StringVar(&o.peerKey, "peer-key", "", "`FILE`: its key")
 	flags.StringVar(&o.peerCA, "peer-ca", "", "`FILE`: who signs the certificates of members")
+	flags.Var(&o.peerNames, "peer-name", "`NAME`: a name that a certificate of a member has; it may come again")
 	flags.BoolVar(&o.trustNetwork, "trust-network", false, "allows addresses beyond loopback without tokens or certificates")
 	flags.StringVar(&o.logFormat, "log-format", "text", "`FORM`: lines on standard error are text or json")
 	flags.StringVar(&o.logLevel, "log-level", "info", "`LEVEL`: the least that is written: debug, info, warn or error")
@@ -99,12 +117,16 @@ func (o *options) check() error {
 		return errors.New("--snapshot-every is 1 or more")
 	case o.join && o.members != "":
 		return errors.New("--members is for the first members, and --join for one that was added")
+	case o.join && o.isNew:
+		return errors.New("--new is for the first members, and --join for one that was added")
 	case o.join && o.peer == "":
 		return errors.New("--join takes --peer")
 	case (o.cert == "") != (o.key == ""), o.clientCA != "" && o.cert == "":
 		return errors.New("--cert and --key come together, and --client-ca with both")
 	case (o.peerCert == "") != (o.peerKey == ""), (o.peerCert == "") != (o.peerCA == ""):
 		return errors.New("--peer-cert, --peer-key and --peer-ca come together")
+	case len(o.peerNames) > 0 && o.peerCA == "":
+		return errors.New("--peer-name takes --peer-ca")
 	}
 	if err := o.readLogging(); err != nil {
 		return err
@@ -215,6 +237,10 @@ func (o *options) checkAddresses() error {
 	if o.peer != "" && !isLoopback(o.peer) && o.peerCA == "" {
 		return errors.New("--peer beyond loopback takes --peer-cert, --peer-key and --peer-ca, or else --trust-network")
 	}
+	if o.peer != "" && o.peerCA == "" && (o.rights != nil || o.clientCA != "") {
+		return errors.New("--token-file and --client-ca take --peer-cert, --peer-key and --peer-ca where there is a port for members, " +
+			"or else --trust-network: whoever has an account on this machine speaks as a member there")
+	}
 	return nil
 }
 
@@ -235,11 +261,9 @@ func (o *options) rates() *httpapi.Rates {
 func (o *options) tickTime() time.Duration { return time.Duration(o.tick) * time.Second }
 
 func (o *options) config(logger *logging.Logger) raftlog.Config {
-	group := fnv.New64a()
-	group.Write([]byte(o.group)) // (never an error)
-	cfg := raftlog.Config{Dir: o.data, Group: group.Sum64(), Self: o.self, Members: o.first, Listen: o.peer,
-		Election: o.election, SnapshotEvery: o.snapshotEvery, Trailing: o.trailing, Log: logger.Std(logging.Info),
-		Fatal: func(err error) { logger.Fatal("member ends", "error", err) }}
+	cfg := raftlog.Config{Dir: o.data, Name: o.group, New: o.isNew, Self: o.self, Members: o.first, Listen: o.peer,
+		PeerNames: o.peerNames, Patience: patience, Election: o.election, SnapshotEvery: o.snapshotEvery, Trailing: o.trailing,
+		Log: logger.Std(logging.Info), Fatal: func(err error) { logger.Fatal("member ends", "error", err) }}
 	if o.peerCA != "" {
 		cfg.TLS = transport.TLSInfo{CertFile: o.peerCert, KeyFile: o.peerKey, TrustedCAFile: o.peerCA, ClientCertAuth: true}
 	}

@@ -103,7 +103,7 @@ func (n *Node) Add(ctx context.Context, member engine.Member, isForced bool) (is
 			return n.promotion(ctx, now, known, isForced)
 		}
 		learns := member
-		learns.Learner, learns.Promote = true, !member.Learner
+		learns.Learner, learns.Promote, learns.Folder = true, !member.Learner, 0 // (it tells that itself)
 		return step{raftpb.ConfChangeAddLearnerNode, learns}, nil
 	})
 }

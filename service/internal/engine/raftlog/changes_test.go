@@ -233,7 +233,7 @@ func TestMembersAreChangedAtTheLeader(t *testing.T) {
 	eventually(t, "it knows the leader", func() bool { return other.Status().Leader == leader })
 	_, err := other.Add(context.Background(), memberAt(t, 4), false)
 	var notLeader *engine.NotLeader
-	if !errors.As(err, &notLeader) || notLeader.Leader != g.configs[leader].Self {
+	if !errors.As(err, &notLeader) || !notLeader.Leader.IsAt(g.configs[leader].Self) {
 		t.Errorf("%v", err)
 	}
 	if _, err := other.Remove(context.Background(), leader, true); !errors.As(err, &notLeader) {

@@ -1,7 +1,6 @@
 package raftlog
 
 import (
-	"encoding/binary"
 	"errors"
 	"fmt"
 	"io"
@@ -76,16 +75,9 @@ func (n *Node) removeLeft() error {
 	return nil
 }
 
-// metadata stands at the head of the log: whose it is.
-func (n *Node) metadata() []byte {
-	b := make([]byte, 16)
-	binary.LittleEndian.PutUint64(b, n.cfg.Self.ID)
-	binary.LittleEndian.PutUint64(b[8:], n.cfg.Group)
-	return b
-}
-
 // openLog goes on with the folder's log, or makes one. It tells whether there was one with something in it.
 func (n *Node) openLog() (isOld bool, err error) {
+	defer func() { n.cfg.Self.Folder = n.identity.Folder }()
 	if wal.Exist(n.logFolder()) {
 		if isOld, err = n.load(); err != nil {
 			return isOld, err
@@ -104,7 +96,7 @@ func (n *Node) openLog() (isOld bool, err error) {
 	if err := n.checkMark(mark{}); err != nil {
 		return false, err
 	}
-	if n.wal, err = wal.Create(n.zap, n.logFolder(), n.metadata()); err != nil {
+	if n.wal, err = wal.Create(n.zap, n.logFolder(), n.identity.head()); err != nil {
 		return false, err
 	}
 	n.opened()
@@ -156,6 +148,9 @@ func (n *Node) load() (isOld bool, err error) {
 	if err := n.checkMark(last); err != nil {
 		return false, err
 	}
+	n.mu.Lock() // (others may ask already who this is)
+	n.began = reach{hard.Term, last.index}
+	n.mu.Unlock()
 	if err := n.storage.SetHardState(hard); err != nil {
 		return false, err
 	}
@@ -228,10 +223,8 @@ func (n *Node) readLog(newest *raftpb.Snapshot) (raftpb.HardState, []raftpb.Entr
 		metadata, hard, entries, err := n.wal.ReadAll()
 		if err == nil && metadata == nil {
 			return hard, nil, n.unreadable(at.Index, errors.New("its head is gone"))
-		} else if err == nil && string(metadata) != string(n.metadata()) {
-			return hard, nil, errNotMember
 		} else if err == nil {
-			return hard, entries, nil
+			return hard, entries, n.takeHead(metadata)
 		}
 		n.wal.Close()
 		n.wal = nil
@@ -240,6 +233,17 @@ func (n *Node) readLog(newest *raftpb.Snapshot) (raftpb.HardState, []raftpb.Entr
 		}
 		n.cfg.Log.Printf("the log ended in a torn record, which was cut off")
 	}
+}
+
+// takeHead refuses the log of another member. Where the file of the identity can't be read, the head of the log has it.
+func (n *Node) takeHead(head []byte) error {
+	if err := n.identity.checkHead(head); err != nil || n.identity.Folder != 0 {
+		return err
+	}
+	n.mu.Lock()
+	n.identity.takeHead(head)
+	n.mu.Unlock()
+	return n.identity.write(n.cfg.Dir, n.syncFolder)
 }
 
 func (n *Node) unreadable(from uint64, err error) error {

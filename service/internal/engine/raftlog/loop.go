@@ -10,8 +10,6 @@ import (
 
 	"go.etcd.io/etcd/raft"
 	"go.etcd.io/etcd/raft/raftpb"
-
-	"lrcman/service/internal/engine"
 )
 
 func withID(id uint64, payload []byte) []byte {
@@ -37,9 +35,8 @@ func (n *Node) loop() {
 			answer <- n.trySnapshot()
 		case id := <-n.leaving:
 			n.disconnect(id)
-		case <-n.peers.ErrorC: // others tell that this member was removed
-			n.end(engine.ErrRemoved)
-			isAlive = false
+		case it := <-n.hearings:
+			n.takeHearing(it)
 		case <-n.stop:
 			isAlive = false
 		}

@@ -5,9 +5,6 @@ import (
 	"encoding/json"
 	"errors"
 	"fmt"
-	"io"
-	"log"
-	"net/http"
 	"sort"
 	"strconv"
 	"sync/atomic"
@@ -15,7 +12,6 @@ import (
 
 	"go.etcd.io/etcd/etcdserver/api/rafthttp"
 	stats "go.etcd.io/etcd/etcdserver/api/v2stats"
-	"go.etcd.io/etcd/pkg/transport"
 	"go.etcd.io/etcd/pkg/types"
 	"go.etcd.io/etcd/raft"
 	"go.etcd.io/etcd/raft/raftpb"
@@ -46,7 +42,7 @@ func (n *Node) url(member engine.Member) string { return n.scheme() + "://" + me
 func (n *Node) startPeers() error {
 	id := strconv.FormatUint(n.cfg.Self.ID, 10)
 	n.peers = &rafthttp.Transport{Logger: n.zap, TLSInfo: n.cfg.TLS, DialTimeout: 2 * time.Second, ID: types.ID(n.cfg.Self.ID),
-		ClusterID: types.ID(n.cfg.Group), Raft: n, Snapshotter: n.snaps, ServerStats: stats.NewServerStats(id, id),
+		ClusterID: types.ID(n.identity.Group), Raft: n, Snapshotter: n.snaps, ServerStats: stats.NewServerStats(id, id),
 		LeaderStats: stats.NewLeaderStats(id), ErrorC: make(chan error, 1)}
 	if n.cfg.Self.Peer != "" { // a member that does not know this one yet answers there
 		urls, err := types.NewURLs([]string{n.url(n.cfg.Self)})
@@ -64,24 +60,18 @@ func (n *Node) startPeers() error {
 	return nil
 }
 
-func (n *Node) listen() error {
-	if n.cfg.Listen == "" {
-		return nil
-	}
-	listener, err := transport.NewListener(n.cfg.Listen, n.scheme(), &n.cfg.TLS)
-	if err != nil {
-		return err
-	}
-	quiet := log.New(io.Discard, "", 0)
-	n.server = &http.Server{Handler: n.peers.Handler(), ReadHeaderTimeout: 10 * time.Second, ErrorLog: quiet}
-	go n.server.Serve(listener)
-	return nil
-}
-
 func (n *Node) addPeer(member engine.Member) {
 	if member.ID != n.cfg.Self.ID && member.Peer != "" {
-		n.peers.AddPeer(types.ID(member.ID), []string{n.url(member)})
+		n.peers.AddPeer(types.ID(member.ID), n.urlsOf(member))
 	}
+}
+
+// urlsOf are where rafthttp speaks to a member, with what it is to tell of this one in each request.
+func (n *Node) urlsOf(member engine.Member) []string {
+	n.mu.Lock()
+	to := n.starts[member.ID].Number
+	n.mu.Unlock()
+	return []string{n.url(member) + "?" + n.ownStart().query(to)}
 }
 
 // renewPeers takes the members of a snapshot in place of those before.
@@ -150,11 +140,12 @@ func (n *Node) judge(change *raftpb.ConfChange, wish wish) (isAgain bool, err er
 		n.removed[id] = true
 		return false, nil
 	case change.Type == raftpb.ConfChangeUpdateNode:
-		known.Peer, known.Client = member.Peer, member.Client
+		known.Peer, known.Client, known.Folder = member.Peer, member.Client, member.Folder
 	case isThere: // it is to vote, or is to vote later, or no more
 		known.Learner, known.Promote = member.Learner, member.Promote
 	default:
 		known = member
+		delete(n.vouched, id)
 	}
 	n.members[id] = known
 	return false, nil
@@ -169,7 +160,7 @@ func (n *Node) isMade(kind raftpb.ConfChangeType, id uint64, member engine.Membe
 	case !isThere || !known.IsAt(member):
 		return false
 	case kind == raftpb.ConfChangeUpdateNode:
-		return true
+		return member.Folder == known.Folder
 	case known.Learner:
 		return member.Learner && member.Promote == known.Promote
 	}
@@ -202,6 +193,8 @@ func (n *Node) refusal(kind raftpb.ConfChangeType, id uint64, member engine.Memb
 		return fmt.Sprintf("there is no member %d", id)
 	case !isAdded && len(n.members) > 1 && member.Peer == "":
 		return "it has no address for the others"
+	case !isAdded && known.Folder != 0 && member.Folder != known.Folder:
+		return fmt.Sprintf("member %d has another folder", id)
 	case member.Peer != "" && !n.isAddress(member):
 		return fmt.Sprintf("this is no address: %q", member.Peer) // (all members would end by it)
 	}
@@ -246,12 +239,11 @@ func (n *Node) lacksAddress(added engine.Member) bool {
 
 // applyChange makes a change of members, and returns false once this one is none.
 func (n *Node) applyChange(entry *raftpb.Entry) bool {
-	var change raftpb.ConfChange
-	n.must("a change of members can't be read", change.Unmarshal(entry.Data))
-	wish, err := wishOf(&change)
-	n.must("a change of members can't be read", err)
-	id := change.NodeID
-	isAgain, refused := n.judge(&change, wish)
+	change, wish, err := changeOf(entry.Data)
+	id, isAgain, refused := change.NodeID, false, error(engine.Refused("this change of members can't be read"))
+	if err == nil {
+		isAgain, refused = n.judge(&change, wish)
+	}
 	isMade := !isAgain && refused == nil
 	if !isMade {
 		change.NodeID = raft.None // raft must hear that the change is over, or it takes no other
@@ -267,10 +259,6 @@ func (n *Node) applyChange(entry *raftpb.Entry) bool {
 		return false
 	}
 	return true
-}
-
-func wishOf(change *raftpb.ConfChange) (wish wish, err error) {
-	return wish, json.Unmarshal(change.Context, &wish)
 }
 
 // A changeOutcome is the outcome of a change of members, by the number of its proposal.
@@ -293,11 +281,11 @@ func (n *Node) connect(kind raftpb.ConfChangeType, id uint64, member engine.Memb
 	switch {
 	case id == n.cfg.Self.ID:
 	case kind == raftpb.ConfChangeAddNode && n.peers.Get(types.ID(id)) != nil: // (it learned before)
-		n.peers.UpdatePeer(types.ID(id), []string{n.url(member)})
+		n.peers.UpdatePeer(types.ID(id), n.urlsOf(member))
 	case kind == raftpb.ConfChangeAddNode, kind == raftpb.ConfChangeAddLearnerNode:
 		n.addPeer(member)
 	case kind == raftpb.ConfChangeUpdateNode && n.peers.Get(types.ID(id)) != nil:
-		n.peers.UpdatePeer(types.ID(id), []string{n.url(member)})
+		n.peers.UpdatePeer(types.ID(id), n.urlsOf(member))
 	case kind == raftpb.ConfChangeUpdateNode:
 		n.addPeer(member)
 	default:
@@ -393,7 +381,7 @@ func (n *Node) announce() {
 		if !isMember || atomic.LoadUint64(&n.lead) == raft.None {
 			continue
 		}
-		if known.IsAt(n.cfg.Self) {
+		if known.IsAt(n.cfg.Self) && known.Folder == n.cfg.Self.Folder {
 			return
 		}
 		ctx, cancel := context.WithTimeout(context.Background(), 5*n.cfg.Election)
@@ -419,10 +407,11 @@ func (n *Node) send(messages []raftpb.Message) {
 
 // Process takes a message of another member. This and what follows is for rafthttp.
 func (n *Node) Process(ctx context.Context, message raftpb.Message) error {
-	if n.IsIDRemoved(message.From) || n.isAlone() {
+	if n.IsIDRemoved(message.From) || n.isAlone() || n.checkMessage(&message) != nil {
 		return nil
 	}
 	n.heard.note(message.From)
+	n.noteAcknowledged(&message)
 	return n.raft.Step(ctx, message)
 }
 

@@ -29,11 +29,14 @@ import (
 // A Config says what a member is.
 type Config struct {
 	Dir           string // its folder
-	Group         uint64 // members of another group are refused
+	Name          string // of the group: a folder of another one is refused
+	New           bool   // the first members begin a new group; a folder that has begun goes on
 	Self          engine.Member
 	Members       []engine.Member // the first members, alike on all of them, this one included; empty where this one joins
 	Listen        string          // HOST:PORT for the other members; "" for one alone
 	TLS           transport.TLSInfo
+	PeerNames     []string      // a certificate of a member has one of them; empty: any of its authority is one
+	Patience      time.Duration // how long one that has not begun waits for the others
 	Election      time.Duration // a leader that is silent so long is given up
 	SnapshotEvery uint64        // entries between snapshots
 	Trailing      uint64        // entries that stay behind a snapshot, for members that are a little late
@@ -62,7 +65,8 @@ type Node struct {
 	wal     *wal.WAL
 	snaps   *snap.Snapshotter
 	peers   *rafthttp.Transport
-	server  *http.Server
+	port    *port
+	asker   *http.Client
 	numbers *numbers
 	zap     *zap.Logger
 
@@ -80,6 +84,15 @@ type Node struct {
 
 	heard heard // when each member was last
 
+	starts           map[uint64]start // of the other members, by their numbers, as far as this one has heard of them
+	vouched          map[uint64]start // of those that others know, and this one does not
+	vouchedAt        time.Time        // when others were asked last about a stranger
+	areStartsUnsaved bool
+	savingStarts     sync.Mutex
+	identity         identity
+	number           uint64 // of this start
+	began            reach  // of this start
+
 	conf     raftpb.ConfState // of the loop
 	isLeader bool             // of the loop
 	changed  []changeOutcome  // of the loop: changes of members that nobody was told of yet
@@ -92,6 +105,7 @@ type Node struct {
 	snapshots  chan chan error
 	written    chan error
 	leaving    chan uint64
+	hearings   chan hearing
 	stop, done chan struct{}
 	stopOnce   sync.Once
 }
@@ -105,8 +119,10 @@ type outcome struct {
 func Start(cfg Config, machine engine.Machine) (*Node, error) {
 	n := &Node{cfg: cfg, machine: machine, storage: raft.NewMemoryStorage(), waiting: map[uint64]chan outcome{},
 		reads: map[uint64]chan uint64{}, members: map[uint64]engine.Member{},
-		removed: map[uint64]bool{}, heard: heard{at: map[uint64]time.Time{}}, round: newRound(), readers: make(chan struct{}, 1), snapshots: make(chan chan error),
-		written: make(chan error, 1), leaving: make(chan uint64), stop: make(chan struct{}), done: make(chan struct{})}
+		removed: map[uint64]bool{}, heard: heard{at: map[uint64]time.Time{}}, starts: map[uint64]start{},
+		vouched: map[uint64]start{}, hearings: make(chan hearing), round: newRound(), readers: make(chan struct{}, 1),
+		snapshots: make(chan chan error),
+		written:   make(chan error, 1), leaving: make(chan uint64), stop: make(chan struct{}), done: make(chan struct{})}
 	if err := n.begin(); err != nil {
 		n.release()
 		return nil, err
@@ -114,6 +130,7 @@ func Start(cfg Config, machine engine.Machine) (*Node, error) {
 	go n.loop()
 	go n.readLoop()
 	go n.announce()
+	go n.watch()
 	go n.promoteLoop()
 	return n, nil
 }
@@ -122,14 +139,11 @@ func (n *Node) begin() (err error) {
 	if n.numbers, err = newNumbers(n.cfg.Self.ID); err != nil {
 		return err
 	}
-	if err := n.logToNobody(); err != nil {
-		return err
-	}
-	if err := n.takeFolder(); err != nil {
-		return err
-	}
-	if err := n.openMark(); err != nil {
-		return err
+	for _, step := range []func() error{n.logToNobody, n.takeFolder, n.openMark, n.openIdentity, n.openStarts, n.newAsker, n.openPort,
+		n.beginGroup} {
+		if err := step(); err != nil {
+			return err
+		}
 	}
 	isOld, err := n.openLog()
 	if err != nil {
@@ -139,13 +153,14 @@ func (n *Node) begin() (err error) {
 	if err := n.startPeers(); err != nil {
 		return err
 	}
-	return n.listen()
+	n.port.open(n.peers.Handler())
+	return nil
 }
 
 // release gives back what a start that failed, or a member that ends, has taken.
 func (n *Node) release() {
-	if n.server != nil {
-		n.server.Close()
+	if n.port != nil {
+		n.port.close()
 	}
 	if n.raft != nil {
 		n.raft.Stop()
@@ -169,12 +184,12 @@ func (n *Node) startRaft(isOld bool) {
 		MaxSizePerMsg: 1 << 20, MaxInflightMsgs: 512, MaxUncommittedEntriesSize: 64 << 20, ReadOnlyOption: raft.ReadOnlySafe,
 		// Without CheckQuorum a leader that is cut off goes on; without PreVote a member that comes back deposes a leader.
 		CheckQuorum: true, PreVote: true}
-	if isOld || len(n.cfg.Members) == 0 {
+	if isOld || len(n.identity.First) == 0 {
 		// (StartNode without peers panics. A member that joins hears of the others from the leader)
 		n.raft = raft.RestartNode(cfg)
 		return
 	}
-	n.raft = raft.StartNode(cfg, peersOf(n.cfg.Members))
+	n.raft = raft.StartNode(cfg, peersOf(n.identity.First))
 }
 
 func (n *Node) logFolder() string  { return filepath.Join(n.cfg.Dir, "wal") }
@@ -185,6 +200,9 @@ func (n *Node) snapFolder() string { return filepath.Join(n.cfg.Dir, "snap") }
 func (n *Node) Propose(ctx context.Context, payload []byte) (interface{}, error) {
 	if atomic.LoadUint64(&n.lead) == raft.None {
 		return nil, engine.ErrNoLeader
+	}
+	if err := n.machine.Check(payload); err != nil {
+		return nil, err
 	}
 	ctx, cancel := context.WithCancel(ctx)
 	defer cancel()

@@ -134,7 +134,8 @@ func (s *said) String() string {
 
 func configOf(t *testing.T, folder string, self engine.Member, members ...engine.Member) (Config, *said) {
 	words := &said{}
-	return Config{Dir: folder, Group: 7, Self: self, Members: members, Listen: self.Peer, Election: 300 * time.Millisecond,
+	return Config{Dir: folder, Name: "seven", New: true, Patience: long, Self: self, Members: members, Listen: self.Peer,
+		Election:      300 * time.Millisecond,
 		SnapshotEvery: 1000, Trailing: 100, Log: log.New(words, "", 0), Fatal: func(err error) {
 			t.Errorf("member %d: %v", self.ID, err)
 			select {} // (it never returns)
@@ -257,12 +258,12 @@ func TestAFolderIsOfOneMemberAndOneGroup(t *testing.T) {
 	propose(t, n, "entry 1")
 	n.Close()
 	for name, change := range map[string]func(*Config){
-		"group":  func(c *Config) { c.Group++ },
+		"group":  func(c *Config) { c.Name = "eight" },
 		"number": func(c *Config) { c.Self.ID = 2; c.Members = []engine.Member{c.Self} },
 	} {
 		other := cfg
 		change(&other)
-		if _, err := Start(other, &list{}); err != errNotMember {
+		if _, err := Start(other, &list{}); !errors.Is(err, errNotMember) {
 			t.Errorf("another %s: %v", name, err)
 		}
 	}
@@ -569,9 +570,40 @@ func groupOf(t *testing.T, size int, changes ...func(*Config)) *group {
 			change(&cfg)
 		}
 		g.configs[member.ID] = cfg
-		g.start(member.ID)
 	}
+	g.startAll()
 	return g
+}
+
+// startAll starts the members beside each other: first ones wait for one another.
+func (g *group) startAll() {
+	g.t.Helper()
+	type begun struct {
+		id      uint64
+		node    *Node
+		machine *list
+		err     error
+	}
+	all := make(chan begun)
+	for id, cfg := range g.configs {
+		go func(id uint64, cfg Config) {
+			machine := &list{}
+			n, err := Start(cfg, machine)
+			all <- begun{id, n, machine, err}
+		}(id, cfg)
+	}
+	for range g.configs {
+		it := <-all
+		if it.err != nil {
+			g.t.Errorf("member %d: %v", it.id, it.err)
+			continue
+		}
+		g.t.Cleanup(it.node.Close)
+		g.nodes[it.id], g.machines[it.id] = it.node, it.machine
+	}
+	if g.t.Failed() {
+		g.t.FailNow()
+	}
 }
 
 func memberAt(t *testing.T, id uint64) engine.Member {
@@ -876,7 +908,7 @@ func TestOneMemberGrowsToThree(t *testing.T) {
 	g.start(1)
 	eventually(t, "the new address is known", func() bool {
 		members := g.nodes[1].Status().Members
-		return len(members) == 1 && members[0] == self
+		return len(members) == 1 && members[0].Peer == self.Peer && members[0].Client == self.Client
 	})
 	g.add(2)
 	g.alike(texts(1, 5))
