@@ -1,16 +1,17 @@
-"""A member whose disk is full ends with a word, and goes on when there is room again; nothing that was told is lost."""
+"""A member whose disk is nearly full takes no changes; one whose disk is full ends with a word, and goes on when there is room again.
+Nothing that was told is lost."""
 import os
 import shutil
 import subprocess
 import time
 
 import harness
-from cluster import Group
+from cluster import Asker, Group
 from one_member import wait_ready
-from work import Run, Work, make_books
+from work import Run, Work, asked_for, make_books
 
 # Small files of the log: two are made in advance, and a member does not ask for room before they are full.
-MEGABYTES, FILE = 16, {"LRCMAND_LOG_FILE": "16384"}
+MEGABYTES, FILE, RESERVE = 16, {"LRCMAND_LOG_FILE": "16384"}, 4 << 20
 WORDS = ["--election", "400ms", "--snapshot-every", "100", "--trailing", "10", "--tick", "0"]
 
 
@@ -31,11 +32,11 @@ class SmallDisk:
         if ran.returncode:
             raise NoMount(ran.stderr.strip().split("\n")[0])
 
-    def fill(self):
-        """Takes all the room that is left."""
+    def fill(self, free=0):
+        """Takes all the room that is left, but for so many bytes."""
         with open(os.path.join(self.folder, "filling"), "wb", buffering=0) as file:
             try:
-                while file.write(bytes(4096)):
+                while shutil.disk_usage(self.folder).free > free and file.write(bytes(4096)):
                     pass
             except OSError:
                 pass  # (it is full)
@@ -61,10 +62,72 @@ def fill_until_it_ends(disk, member, run, limit=120):
     run.count("full")
 
 
-def full_disk(faulty, folder, nodes, size):
+def expect(run, words, is_right):
+    if not is_right:
+        run.faults.append(words)
+
+
+class Asked:
+    """One member whose disk is nearly full, as its clients see it."""
+
+    def __init__(self, member, run):
+        self.member, self.run, self.asker = member, run, Asker(5)
+
+    def ask(self, method, path, value=None):
+        return self.asker.json(self.member.client, method, path, value)
+
+    def make(self, book, topology):
+        path = f"/books/{book}"
+        status, _ = asked_for(lambda: self.asker.ask(self.member.client, "PUT", path, topology)[:2], [200], 30)
+        expect(self.run, f"the book {book} is not made: {status}", status == 200)
+
+    def until(self, method, path, value, status):
+        return asked_for(lambda: self.ask(method, path, value), [status], 30)
+
+    def call(self, status):
+        """Makes one call until it has the status."""
+        return self.until("POST", "/books/kept/call", {"command": "tick", "key": "refused"}, status)
+
+    def expect(self, words, method, path, value=None, status=200):
+        found, told = self.until(method, path, value, status)
+        expect(self.run, f"a member below its reserve {words}: {found} {told}", found == status)
+        return told
+
+
+def refuse(group, disk, member, run, topology):
+    """Below its reserve the member refuses changes by name, but for what makes room; it does not lead, and looks go on."""
+    asked = Asked(member, run)
+    asked.make("spare", topology)
+    asked.make("kept", topology)
+    disk.fill(RESERVE // 2)
+    status, told = asked.call(507)
+    expect(run, f"below its reserve a member takes changes: {status} {told}", told.get("code") == "disk_full")
+    reasons = asked.expect("says so to /readyz", "GET", "/readyz", None, 503).get("reasons", ())
+    expect(run, f"its reasons are not that of the disk: {reasons}", "disk" in reasons)
+    asked.expect("gives looks as of now", "GET", "/books/p0?now=1")
+    place = asked.expect("gives looks", "GET", "/books/spare?now=1")
+    asked.expect("removes a book", "DELETE", "/books/spare", {"at": place.get("n"), "opens": place.get("opens")})
+    asked.expect("writes a snapshot", "POST", "/snapshot")
+    if len(group.members) > 1:
+        others = asked_for(lambda: (int(group.leader() != member.number),), [1], 20)
+        expect(run, "a member that takes no changes leads", others[0] == 1)
+    run.count("refused")
+
+
+def goes_on_full(disk, member, run):
+    """One that takes no changes writes nothing: so it goes on, however full the disk is, and takes changes again above its reserve."""
+    disk.fill()
+    time.sleep(2)
+    expect(run, f"a member alone that takes no changes ends: {member.said()[-400:]}", member.runs())
+    disk.make_room()
+    status, told = Asked(member, run).call(200)
+    expect(run, f"above its reserve a member takes no changes: {status} {told}", status == 200)
+
+
+def full_disk(faulty, folder, nodes, size, reserve):
     """A run over so many members, of which the first one's disk is full for a while."""
     run = Run()
-    group = Group(faulty, folder, size, WORDS, FILE)
+    group = Group(faulty, folder, size, [*WORDS, "--disk-reserve", str(reserve)], FILE)
     disk = SmallDisk(os.path.join(folder, "small"), MEGABYTES)
     try:
         member = group.members[1]
@@ -74,10 +137,15 @@ def full_disk(faulty, folder, nodes, size):
             work = Work(group, nodes, callers=4, lookers=1)
             work.begin()
             time.sleep(0.5)
-            fill_until_it_ends(disk, member, run)
-            disk.make_room()
-            group.start(member)
-            wait_ready(group.asker, member, 60)
+            if reserve:
+                refuse(group, disk, member, run, harness.topology_of(nodes))
+            if reserve and size == 1:
+                goes_on_full(disk, member, run)
+            else:
+                fill_until_it_ends(disk, member, run)
+                disk.make_room()
+                group.start(member)
+                wait_ready(group.asker, member, 60)
             end = time.monotonic() + 0.5
             while work.goes_on(end):
                 time.sleep(0.05)
@@ -88,11 +156,11 @@ def full_disk(faulty, folder, nodes, size):
 
 
 def test_full_disk(count, faulty, room, nodes):
-    for size in (1, 3):
+    for size, reserve in ((1, RESERVE), (1, 0), (3, RESERVE)):
         try:
-            run = full_disk(faulty, f"{room}/full{size}", nodes, size)
+            run = full_disk(faulty, f"{room}/full{size}-{reserve}", nodes, size, reserve)
         except NoMount as why:
             print(f"left out: a full disk: {why}", flush=True)
             return
-        print(f"a full disk, one of {size}: {run}", flush=True)
+        print(f"a full disk, one of {size}, with a reserve of {reserve}: {run}", flush=True)
         count.add(max(run.told + run.looks + run.entries - len(run.faults), 1), run.faults)

@@ -28,6 +28,7 @@ type options struct {
 	id, tick, snapshotEvery, trailing, rate uint64
 	isNew, join, trustNetwork, version      bool
 	peerNames                               several
+	diskReserve                             uint64
 	logFormat, logLevel                     string
 	logging                                 logging.Config
 	election, timeout                       time.Duration
@@ -73,6 +74,7 @@ func parse(words []string) (*options, error) {
 	flags.DurationVar(&o.timeout, "timeout", 10*time.Second, "`DURATION`: how long a request may take")
 	flags.Uint64Var(&o.snapshotEvery, "snapshot-every", 100000, "`N`: entries between snapshots")
 	flags.Uint64Var(&o.trailing, "trailing", 5000, "`N`: entries that stay behind a snapshot")
+	flags.Uint64Var(&o.diskReserve, "disk-reserve", 256<<20, "`BYTES`: changes are refused where the disk has less room; 0: never")
 	flags.Uint64Var(&o.rate, "rate", 0, "`N`: requests a second from one address; 0: any number")
 	flags.StringVar(&o.tokenFile, "token-file", "", "`FILE`: lines of ROLE TOKEN, or ROLE cert=NAME")
 	flags.StringVar(&o.auditFile, "audit-file", "", "`FILE`: what operators ask and who is refused; in the log by default")
@@ -115,6 +117,8 @@ func (o *options) check() error {
 		return errors.New("--timeout is --election or more")
 	case o.snapshotEvery == 0:
 		return errors.New("--snapshot-every is 1 or more")
+	case o.diskReserve > 1<<60:
+		return errors.New("--disk-reserve is too high")
 	case o.join && o.members != "":
 		return errors.New("--members is for the first members, and --join for one that was added")
 	case o.join && o.isNew:

@@ -11,6 +11,7 @@ import (
 	"time"
 
 	"lrcman/service/internal/book"
+	"lrcman/service/internal/disk"
 	"lrcman/service/internal/engine"
 	"lrcman/service/internal/engine/raftlog"
 	"lrcman/service/internal/httpapi"
@@ -29,7 +30,8 @@ type service struct {
 	ports      *ports
 	gate       *gate
 	server     *http.Server
-	watch      *http.Server       // of health and metrics alone
+	watch      *http.Server // of health and metrics alone
+	disk       *disk.Watch
 	stop       context.CancelFunc // of the replica
 }
 
@@ -86,20 +88,43 @@ func shutGate(why *reason) *gate {
 
 func newService(o *options, logger *logging.Logger, node engine.Engine, books *state.State, knobs replica.Knobs, ports *ports) *service {
 	s := &service{options: o, log: logger, engine: node, ports: ports}
+	s.disk = disk.New(disk.Config{Folder: o.data, Reserve: o.diskReserve, Changed: s.diskChanged})
 	r := replica.New(replica.Config{Engine: node, State: books, Timeout: o.timeout, Election: o.election, Tick: o.tickTime(),
-		Log: logger.Std(logging.Info), Knobs: knobs})
+		Log: logger.Std(logging.Info), MayChange: s.disk.MayChange, Knobs: knobs})
 	s.monitoring = newMonitoring(node, books, o.data)
 	s.monitoring.metrics.ConnectionsOf(ports.connections.Counts)
 	s.api = httpapi.New(httpapi.Config{Engine: node, State: books, Replica: r, Rights: o.rights, Hosts: o.allHosts(node), Rates: o.rates(),
 		Timeout: o.timeout, Mounts: s.monitoring.mounts(), Observe: s.monitoring.metrics.Observe, Audit: ports.auditTo(logger),
-		Connections: ports.connections, Watchers: ports.watchers, Log: logger.Std(logging.Error)})
+		Checks: s.checks(), Build: httpapi.Build{Version: version, Commit: commit}, Connections: ports.connections, Watchers: ports.watchers,
+		Log: logger.Std(logging.Error)})
 	s.gate, s.server, s.watch = &gate{}, s.api.Server(), s.api.WatchServer()
 	s.server.Handler, s.watch.Handler = s.gate.before(s.server.Handler), s.gate.before(s.watch.Handler)
 	ctx, stop := context.WithCancel(context.Background())
 	s.stop = stop
 	go r.Run(ctx)
+	go s.disk.Run(ctx)
 	ports.rereadAtSignal(ctx, o, logger)
 	return s
+}
+
+// checks are those of whether this member is ready.
+func (s *service) checks() []httpapi.Check {
+	return []httpapi.Check{{Name: "disk", Why: func() string {
+		if s.disk.IsLow() {
+			return disk.ErrFull.Error()
+		}
+		return ""
+	}}}
+}
+
+// diskChanged says that changes are refused from now on, or taken again. A leader whose disk may soon be full gives its lead away.
+func (s *service) diskChanged(isLow bool, free int64) {
+	if !isLow {
+		s.log.Info("the disk has room again: changes are taken", "free", free, "reserve", s.options.diskReserve)
+		return
+	}
+	s.log.Warn("the disk has less room than its reserve: changes are refused", "free", free, "reserve", s.options.diskReserve)
+	go s.leadAway()
 }
 
 func (s *service) notify(state string) {

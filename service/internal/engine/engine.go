@@ -6,6 +6,7 @@ import (
 	"errors"
 	"fmt"
 	"io"
+	"time"
 )
 
 // A Machine is what a log drives. Its methods, but for the function that Freeze returns, are called one after the other.
@@ -55,6 +56,8 @@ type Status struct {
 	Snapshot uint64   `json:"snapshot"` // the index of the last one
 	First    uint64   `json:"first"`    // the first entry that this member still sends to others
 	Members  []Member `json:"members"`
+	// When the loop of the log last turned; zero: unknown.
+	Turned time.Time `json:"-"`
 }
 
 var (

@@ -38,10 +38,12 @@ type Config struct {
 	Rates                 *Rates        // nil: no address makes too many requests
 	Timeout               time.Duration // of one request
 	Mounts                []Mount       // what other packages answer
-	Observe               func(Served)  // is told of each request; nil: nobody is
-	Connections, Watchers *Connections  // at the port for clients, and at that for health and metrics; nil: nobody counts them
-	Audit                 func(string)  // is told what was asked for as an operator, and what was refused for lack of rights; nil: nobody is
-	Log                   *log.Logger   // is told of faults; nil: nobody is
+	Checks                []Check       // of whether this member is ready, beside those of the log
+	Build                 Build
+	Observe               func(Served) // is told of each request; nil: nobody is
+	Connections, Watchers *Connections // at the port for clients, and at that for health and metrics; nil: nobody counts them
+	Audit                 func(string) // is told what was asked for as an operator, and what was refused for lack of rights; nil: nobody is
+	Log                   *log.Logger  // is told of faults; nil: nobody is
 	Knobs                 Knobs
 }
 

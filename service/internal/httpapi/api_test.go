@@ -579,7 +579,7 @@ func TestVersionAndMembers(t *testing.T) {
 	s.expect("PUT", "/members/8?force=1", `{"peer":"k:1","client":"k:2"}`, 200, `{"members":[{"id":1,"peer":"h:1","client":"h:2","leader":true},`+
 		strings.Replace(again, `],"again":true}`, `,{"id":8,"peer":"k:1","client":"k:2","leader":false}]}`, 1))
 	_, text := s.ask("GET", "/version", "")
-	if !strings.HasPrefix(text, fmt.Sprintf(`{"service":1,"form":2,"interface":%d,"rules":%d,"go":"go1`, book.Interface(), book.Rules())) {
+	if !strings.HasPrefix(text, fmt.Sprintf(`{"service":1,"version":"","commit":"","form":2,"interface":%d,"rules":%d,"go":"go1`, book.Interface(), book.Rules())) {
 		t.Error(text)
 	}
 	_, text = s.ask("GET", "/status", "")

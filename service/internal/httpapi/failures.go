@@ -6,6 +6,7 @@ import (
 	"net/http"
 
 	"lrcman/service/internal/book"
+	"lrcman/service/internal/disk"
 	"lrcman/service/internal/engine"
 	"lrcman/service/internal/replica"
 	"lrcman/service/internal/state"
@@ -19,7 +20,9 @@ type failure struct {
 	Maybe  bool    `json:"maybe,omitempty"`  // it may have been made
 	Before *uint64 `json:"before,omitempty"` // of a log: the first place that this member has
 	Leader string  `json:"leader,omitempty"` // HOST:PORT of the leader for clients, where it alone is asked for this
-	allow  string
+	// Of a member that is not ready: why, in words, by what is the matter.
+	Reasons map[string]string `json:"reasons,omitempty"`
+	allow   string
 }
 
 // Error is the line of words.
@@ -36,7 +39,7 @@ func (f *failure) setHeaders(header http.Header) {
 	case http.StatusTooManyRequests:
 		header.Set("Retry-After", "1")
 		header.Set("Connection", "close") // (who asks too much may not keep a connection, too)
-	case http.StatusServiceUnavailable:
+	case http.StatusServiceUnavailable, http.StatusInsufficientStorage:
 		header.Set("Retry-After", "1")
 	}
 }
@@ -59,6 +62,7 @@ var codesOf = map[int]string{
 	http.StatusInternalServerError:   "fault",
 	http.StatusServiceUnavailable:    "busy",
 	http.StatusGatewayTimeout:        "outcome_unknown",
+	http.StatusInsufficientStorage:   "disk_full",
 }
 
 func bad(form string, values ...interface{}) error {
@@ -109,6 +113,7 @@ var failuresOf = []struct {
 	{book.ErrNotFound, http.StatusNotFound, "not_found"},
 	{book.ErrUndetermined, http.StatusConflict, "undetermined"},
 	{replica.ErrFull, http.StatusTooManyRequests, "too_many_requests"},
+	{disk.ErrFull, http.StatusInsufficientStorage, "disk_full"},
 	{engine.ErrNoLeader, http.StatusServiceUnavailable, "no_leader"},
 	{engine.ErrNotMoved, http.StatusServiceUnavailable, "busy"},
 	{engine.ErrBusy, http.StatusServiceUnavailable, "busy"},

@@ -16,23 +16,19 @@ type group struct {
 	state   *state.State
 	replica *replica.Replica
 	refused *tally
-}
-
-func (g *group) health(q *request) error {
-	if !g.replica.KeepsUp() {
-		return engine.ErrNoLeader
-	}
-	return q.say(http.StatusOK, map[string]bool{"ok": true})
+	checks  []Check
+	build   Build
 }
 
 func (g *group) version(q *request) error {
 	return q.say(http.StatusOK, struct {
-		Service   int    `json:"service"`
+		Service int `json:"service"`
+		Build
 		Form      int    `json:"form"`
 		Interface uint32 `json:"interface"`
 		Rules     uint32 `json:"rules"`
 		Go        string `json:"go"`
-	}{1, state.Form, book.Interface(), g.state.Rules(), runtime.Version()})
+	}{1, g.build, state.Form, book.Interface(), g.state.Rules(), runtime.Version()})
 }
 
 func (g *group) status(q *request) error {

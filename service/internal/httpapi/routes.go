@@ -30,11 +30,13 @@ const (
 func (a *API) table() []Route {
 	calls := &calls{a.cfg.Replica}
 	looks := &looks{a.cfg.State, a.cfg.Replica}
-	group := &group{a.cfg.Engine, a.cfg.State, a.cfg.Replica, a.refused}
+	group := &group{a.cfg.Engine, a.cfg.State, a.cfg.Replica, a.refused, a.cfg.Checks, a.cfg.Build}
 	rules := &rules{calls, a.cfg.State, a.cfg.Engine}
 	logs := &logs{a.cfg.State, make(chan struct{}, mostStreams), a.stop}
 	return []Route{
 		{"GET", "/health", Nobody, 0, "", Timed, group.health},
+		{"GET", "/livez", Nobody, 0, "", Timed, group.live},
+		{"GET", "/readyz", Nobody, 0, "", Timed, group.ready},
 		{"GET", "/version", Look, 0, "", Timed, group.version},
 		{"GET", "/status", Look, 0, "", Timed, group.status},
 		{"GET", "/members", Look, 0, "", Timed, group.members},

@@ -25,7 +25,9 @@ type Config struct {
 	Election time.Duration // what waits for a leader longer than this is refused; 0: one second
 	Tick     time.Duration // between two ticks by the leader; 0: never
 	Log      *log.Logger
-	Knobs    Knobs
+	// MayChange tells why this member takes no such item now; nil: it takes all.
+	MayChange func(*state.Item) error
+	Knobs     Knobs
 }
 
 // Knobs are what tests, and a program that is built with the tag faulty, do otherwise. Those that are nil change nothing.
@@ -63,7 +65,7 @@ func (r *Replica) Run(ctx context.Context) {
 }
 
 // Do brings an item into the log and returns its answer. An item with a key is then first asked for now: it gets its Since. The
-// error is an *Unknown if nobody knows whether it was made. After any other one nothing was made.
+// error is an *Unknown if nobody knows whether it was made. After any other one, that of MayChange too, nothing was made.
 func (r *Replica) Do(ctx context.Context, item *state.Item) (state.Answer, error) {
 	if item.Key != "" {
 		item.Since = r.cfg.Engine.Status().Applied
@@ -79,6 +81,11 @@ func (r *Replica) DoSince(ctx context.Context, item *state.Item) (state.Answer, 
 func (r *Replica) do(ctx context.Context, p *pending) (state.Answer, error) {
 	if r.isLeaderless() {
 		return state.Answer{}, engine.ErrNoLeader
+	}
+	if r.cfg.MayChange != nil {
+		if err := r.cfg.MayChange(p.item); err != nil {
+			return state.Answer{}, err
+		}
 	}
 	if !r.queue.add(p) {
 		return state.Answer{}, ErrFull

@@ -5,6 +5,7 @@ import (
 	"context"
 	"fmt"
 	"sync"
+	"time"
 
 	"lrcman/service/internal/engine"
 )
@@ -16,6 +17,7 @@ type Local struct {
 	Silent  error // what Barrier returns
 	Leader  uint64
 	Saved   int // snapshots that were asked for
+	Turned  time.Time
 
 	mu      sync.Mutex
 	machine engine.Machine
@@ -68,7 +70,7 @@ func (l *Local) Barrier(context.Context) error {
 func (l *Local) Status() engine.Status {
 	l.mu.Lock()
 	defer l.mu.Unlock()
-	return engine.Status{ID: 1, Leader: l.Leader, Applied: l.index, Members: l.Members}
+	return engine.Status{ID: 1, Leader: l.Leader, Applied: l.index, Members: l.Members, Turned: l.Turned}
 }
 
 // Add takes any member but 9, as long as this one leads, and 8 only by force.
