@@ -28,7 +28,7 @@ type options struct {
 	id, tick, snapshotEvery, trailing, rate uint64
 	isNew, join, trustNetwork, version      bool
 	peerNames                               several
-	diskReserve                             uint64
+	diskReserve, snapshotBytes              uint64
 	logFormat, logLevel                     string
 	logging                                 logging.Config
 	election, timeout                       time.Duration
@@ -73,6 +73,7 @@ func parse(words []string) (*options, error) {
 	flags.DurationVar(&o.election, "election", time.Second, "`DURATION`: how long a leader may be silent")
 	flags.DurationVar(&o.timeout, "timeout", 10*time.Second, "`DURATION`: how long a request may take")
 	flags.Uint64Var(&o.snapshotEvery, "snapshot-every", 100000, "`N`: entries between snapshots")
+	flags.Uint64Var(&o.snapshotBytes, "snapshot-bytes", 64<<20, "`BYTES`: of entries between snapshots")
 	flags.Uint64Var(&o.trailing, "trailing", 5000, "`N`: entries that stay behind a snapshot")
 	flags.Uint64Var(&o.diskReserve, "disk-reserve", 256<<20, "`BYTES`: changes are refused where the disk has less room; 0: never")
 	flags.Uint64Var(&o.rate, "rate", 0, "`N`: requests a second from one address; 0: any number")
@@ -119,6 +120,8 @@ func (o *options) check() error {
 		return errors.New("--snapshot-every is 1 or more")
 	case o.diskReserve > 1<<60:
 		return errors.New("--disk-reserve is too high")
+	case o.snapshotBytes == 0:
+		return errors.New("--snapshot-bytes is 1 or more")
 	case o.join && o.members != "":
 		return errors.New("--members is for the first members, and --join for one that was added")
 	case o.join && o.isNew:
@@ -266,8 +269,8 @@ func (o *options) tickTime() time.Duration { return time.Duration(o.tick) * time
 
 func (o *options) config(logger *logging.Logger) raftlog.Config {
 	cfg := raftlog.Config{Dir: o.data, Name: o.group, New: o.isNew, Self: o.self, Members: o.first, Listen: o.peer,
-		PeerNames: o.peerNames, Patience: patience, Election: o.election, SnapshotEvery: o.snapshotEvery, Trailing: o.trailing,
-		Log: logger.Std(logging.Info), Fatal: func(err error) { logger.Fatal("member ends", "error", err) }}
+		PeerNames: o.peerNames, Patience: patience, Election: o.election, SnapshotEvery: o.snapshotEvery,
+		SnapshotBytes: o.snapshotBytes, Trailing: o.trailing, Log: logger.Std(logging.Info), Fatal: func(err error) { logger.Fatal("member ends", "error", err) }}
 	if o.peerCA != "" {
 		cfg.TLS = transport.TLSInfo{CertFile: o.peerCert, KeyFile: o.peerKey, TrustedCAFile: o.peerCA, ClientCertAuth: true}
 	}

@@ -9,21 +9,22 @@ import (
 	"time"
 )
 
-// A Machine is what a log drives. Its methods, but for the function that Freeze returns, are called one after the other.
+// A Machine is what a log drives. Apply, Freeze and Restore are called by one goroutine, one after the other, in the order of the
+// log. Check, Verify, and the function that Freeze returns, may run
+// beside them.
 type Machine interface {
 	// Apply makes the changes of an entry, and returns what the proposer of this member is told. Indexes rise. After an
 	// error the engine ends: this member is not what the others are.
 	Apply(index uint64, payload []byte) (interface{}, error)
-	// Check tells why a payload is no entry that this program can read. It is asked before one is proposed, whoever brings it, and
-	// may be called beside the other methods.
+	// Check tells why a payload is no entry that this program can read. It is asked before one is proposed, whoever brings it.
 	Check(payload []byte) error
-	// Freeze returns a function that writes the state, or a later one. It may run beside Apply.
+	// Freeze returns a function that writes the state, or a later one.
 	Freeze() func(io.Writer) error
 	// Restore begins in what such a function wrote. After an error the machine is as it was. The error wraps ErrDamaged if
 	// the bytes are not those that were written.
 	Restore(io.Reader) error
 	// Verify reads what such a function wrote to its end, and changes nothing. The error wraps ErrDamaged if the bytes are not
-	// those that were written. It may run beside the other methods.
+	// those that were written.
 	Verify(io.Reader) error
 }
 
@@ -73,9 +74,8 @@ var (
 	ErrRemoved = errors.New("this member was removed from its group")
 	// ErrDamaged says that a snapshot is not as it was written.
 	ErrDamaged = errors.New("the snapshot is damaged")
-	// ErrBusy says that nothing was begun: a snapshot is being written already, or so much waits to be committed that no more
-	// is taken.
-	ErrBusy = errors.New("a snapshot is being written")
+	// ErrBusy says that nothing was begun: a snapshot is being written already, or too much waits to be committed or applied.
+	ErrBusy = errors.New("this member is busy: a snapshot is being written, or too many entries wait")
 )
 
 // A Refused says why a change of members is not made.

@@ -178,8 +178,9 @@ func (n *Node) loadSnapshot() (*raftpb.Snapshot, error) {
 		} else if err != nil {
 			return nil, err
 		}
-		err = n.restore(found.Metadata)
+		head, err := n.restore(found.Metadata)
 		if err == nil {
+			n.beginAt(found.Metadata, head)
 			n.sayOlder(found.Metadata.Index, newest)
 			return found, n.storage.ApplySnapshot(*found)
 		} else if !errors.Is(err, engine.ErrDamaged) && !errors.Is(err, os.ErrNotExist) {
@@ -205,6 +206,9 @@ func (n *Node) setAside(m raftpb.SnapshotMetadata) error {
 		if err := os.Rename(path, path+".broken"); err != nil && !errors.Is(err, os.ErrNotExist) {
 			return err
 		}
+	}
+	if err := n.purgeBroken(); err != nil {
+		return err
 	}
 	return n.syncFolder(n.snapFolder())
 }
@@ -260,20 +264,31 @@ type head struct {
 	Changes uint64          `json:"changes"`
 }
 
-// restore begins in the file of a snapshot.
-func (n *Node) restore(m raftpb.SnapshotMetadata) error {
-	file, err := os.Open(n.fileOf(m.Index))
+// readSnapshot reads the head of a snapshot's file, and lets a function read the rest.
+func (n *Node) readSnapshot(index uint64, read func(io.Reader) error) (head, error) {
+	file, err := os.Open(n.fileOf(index))
 	if err != nil {
-		return err
+		return head{}, err
 	}
 	defer file.Close()
 	head, err := readHead(file)
 	if err != nil {
-		return err
+		return head, err
 	}
-	if err := n.machine.Restore(file); err != nil {
-		return err
+	return head, read(file)
+}
+
+// restore makes the machine begin in a snapshot.
+func (n *Node) restore(m raftpb.SnapshotMetadata) (head, error) {
+	head, err := n.readSnapshot(m.Index, n.machine.Restore)
+	if err == nil {
+		n.setApplied(m.Index)
 	}
+	return head, err
+}
+
+// beginAt takes the members of a snapshot; entries come behind it.
+func (n *Node) beginAt(m raftpb.SnapshotMetadata, head head) {
 	n.mu.Lock()
 	n.members, n.removed = map[uint64]engine.Member{}, map[uint64]bool{}
 	for _, member := range head.Members {
@@ -284,10 +299,8 @@ func (n *Node) restore(m raftpb.SnapshotMetadata) error {
 	}
 	n.changes = head.Changes
 	n.mu.Unlock()
-	n.conf = m.ConfState
+	n.conf, n.handed, n.unsnapped, n.frozen = m.ConfState, m.Index, 0, 0
 	atomic.StoreUint64(&n.saved, m.Index)
-	n.setApplied(m.Index)
-	return nil
 }
 
 func (n *Node) fileOf(index uint64) string {

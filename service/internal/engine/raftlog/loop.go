@@ -4,6 +4,7 @@ import (
 	"context"
 	"encoding/binary"
 	"fmt"
+	"io"
 	"sort"
 	"sync/atomic"
 	"time"
@@ -33,6 +34,8 @@ func (n *Node) loop() {
 			n.hasWritten(err)
 		case answer := <-n.snapshots:
 			answer <- n.trySnapshot()
+		case m := <-n.spoilt:
+			n.replaceSpoilt(m)
 		case id := <-n.leaving:
 			n.disconnect(id)
 		case it := <-n.hearings:
@@ -41,10 +44,11 @@ func (n *Node) loop() {
 			isAlive = false
 		}
 	}
+	n.stopOnce.Do(func() { close(n.stop) })
+	n.applier.drain() // what is committed is told
 	if n.isSaving {
 		<-n.written
 	}
-	n.stopOnce.Do(func() { close(n.stop) })
 	n.failAll()
 	n.release()
 }
@@ -64,7 +68,8 @@ func (n *Node) must(what string, err error) {
 	}
 }
 
-// serve does what raft has ready. Each step has its place. It returns false once this member is none of the group.
+// serve does what raft has ready. Each step has its place, and none waits for the machine. It returns false once this member is
+// none of the group.
 func (n *Node) serve(ready raft.Ready) bool {
 	n.note(ready)
 	// 1. A leader may send before it saves: its followers save beside it. It hears of no commit before it has saved,
@@ -79,25 +84,22 @@ func (n *Node) serve(ready raft.Ready) bool {
 		// What was saved before is applied and told now, so it does not wait for the sync of what came behind it.
 		var saved []raftpb.Entry
 		saved, committed = split(committed, ready.Entries)
-		isMember = n.apply(saved)
+		isMember = n.handOver(saved)
 	}
-	// 2. What is told from here on is on disk.
+	// 2. What is applied and told from here on is on disk.
 	n.save(ready)
-	// 3. Whoever counts votes must know the members of the entries that are committed: so these first, if there are some.
-	changesMembers := hasChange(committed)
-	if !sendsFirst && !changesMembers {
+	// 3. Whoever counts votes must know the members of the entries that are committed: so these are handed over first.
+	isMember = n.handOver(committed) && isMember
+	if !sendsFirst {
 		n.send(ready.Messages)
 	}
 	n.giveReads(ready.ReadStates)
-	isMember = n.apply(committed) && isMember
-	n.must("the mark can't be written", n.writeMark(mark{atomic.LoadUint64(&n.applied), atomic.LoadUint64(&n.term)}))
-	if !sendsFirst && changesMembers {
-		n.send(ready.Messages)
-	}
+	n.must("the mark can't be written", n.writeMark(mark{n.handed, atomic.LoadUint64(&n.term)}))
+	// 4. Raft counts what is handed over as applied: it gives nothing twice. Readers wait for the applier.
 	n.raft.Advance()
 	n.tellChanges()
 	if isMember && n.isDue() {
-		n.trySnapshot() // (one that is being written already will do)
+		n.trySnapshot()
 	}
 	return isMember
 }
@@ -118,15 +120,15 @@ func (n *Node) save(ready raft.Ready) {
 
 // isDue tells whether it is time for a snapshot.
 func (n *Node) isDue() bool {
-	behind := atomic.LoadUint64(&n.applied) - atomic.LoadUint64(&n.saved)
-	return behind >= n.cfg.SnapshotEvery && time.Now().After(n.retryAt)
+	isLong := n.handed-atomic.LoadUint64(&n.saved) >= n.cfg.SnapshotEvery || n.unsnapped >= n.cfg.SnapshotBytes
+	return isLong && !n.isSaving && time.Now().After(n.retryAt)
 }
 
 func (n *Node) note(ready raft.Ready) {
 	if ready.SoftState != nil {
 		before := atomic.SwapUint64(&n.lead, ready.SoftState.Lead)
 		if before != ready.SoftState.Lead && before != raft.None {
-			n.failAll() // whoever waits asks again
+			n.failLost() // whoever waits asks again
 		}
 		n.isLeader = ready.SoftState.RaftState == raft.StateLeader
 	}
@@ -145,53 +147,24 @@ func split(committed, unsaved []raftpb.Entry) (before, among []raftpb.Entry) {
 	return committed[:count], committed[count:]
 }
 
-func hasChange(entries []raftpb.Entry) bool {
-	for i := range entries {
-		if entries[i].Type != raftpb.EntryNormal {
-			return true
-		}
-	}
-	return false
-}
-
-func (n *Node) apply(entries []raftpb.Entry) bool {
-	isMember := true
-	for i := range entries {
-		entry := &entries[i]
-		if entry.Index <= atomic.LoadUint64(&n.applied) {
-			continue // the snapshot has it
-		}
-		switch {
-		case entry.Type == raftpb.EntryConfChange:
-			isMember = n.applyChange(entry) && isMember
-		case entry.Type != raftpb.EntryNormal:
-			n.must("the log", fmt.Errorf("entry %d is of kind %v", entry.Index, entry.Type))
-		case len(entry.Data) > 8: // (an empty one is that of a new leader)
-			told, err := n.machine.Apply(entry.Index, entry.Data[8:])
-			n.must("this member ends", err)
-			n.tell(binary.LittleEndian.Uint64(entry.Data), told, nil)
-		}
-		n.setApplied(entry.Index)
-	}
-	return isMember
-}
-
-// saveReceived saves a snapshot of the leader, whose file of books rafthttp has saved and renamed already.
+// saveReceived notes a snapshot of the leader, whose file was received and found whole.
 func (n *Node) saveReceived(received raftpb.Snapshot) {
 	m := received.Metadata
-	n.must("the folder of snapshots can't be synced", n.syncFolder(n.snapFolder())) // (rafthttp leaves this out)
-	if err := n.restore(m); err != nil {
-		n.setAside(m) // else it would be kept in place of the next one
-		n.must("the snapshot of the leader can't be read", err)
-	}
+	head, err := n.readSnapshot(m.Index, func(io.Reader) error { return nil })
+	n.must("the snapshot of the leader can't be read", err)
 	n.failAll() // what waits may be in it, and is not applied here any more
 	n.record(received)
+	n.beginAt(m, head)
 }
 
-// takeReceived goes on behind a snapshot of the leader that is saved.
+// takeReceived goes on behind a snapshot of the leader that is saved, and from now on acknowledged. It is restored beside the
+// loop.
 func (n *Node) takeReceived(received raftpb.Snapshot) {
+	m := received.Metadata
 	n.must("the log can't be synced", n.wal.Sync()) // a hard state alone was perhaps not synced
 	n.must("the log can't be kept", n.storage.ApplySnapshot(received))
 	n.renewPeers()
+	atomic.StoreUint64(&n.received, m.Index)
+	n.applier.add(func() { n.restoreReceived(m) })
 	n.must("old files can't be removed", n.purge())
 }

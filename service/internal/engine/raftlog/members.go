@@ -409,6 +409,8 @@ func (n *Node) send(messages []raftpb.Message) {
 func (n *Node) Process(ctx context.Context, message raftpb.Message) error {
 	if n.IsIDRemoved(message.From) || n.isAlone() || n.checkMessage(&message) != nil {
 		return nil
+	} else if !n.hasWhole(&message) {
+		return errRefused
 	}
 	n.heard.note(message.From)
 	n.noteAcknowledged(&message)

@@ -1,6 +1,7 @@
 // Package raftlog is an engine over etcd's own parts: raft, wal, snap and rafthttp of go.etcd.io/etcd 3.4.
 //
-// One goroutine, the loop, saves, sends and applies what raft asks for. Its order is what makes an answer durable: see serve.
+// One goroutine, the loop, saves and sends what raft asks for, and hands what is committed to another, the applier. Its order is what
+// makes an answer durable: see serve.
 package raftlog
 
 import (
@@ -24,6 +25,7 @@ import (
 	"go.uber.org/zap"
 
 	"lrcman/service/internal/engine"
+	"lrcman/service/internal/ratelog"
 )
 
 // A Config says what a member is.
@@ -38,7 +40,8 @@ type Config struct {
 	PeerNames     []string      // a certificate of a member has one of them; empty: any of its authority is one
 	Patience      time.Duration // how long one that has not begun waits for the others
 	Election      time.Duration // a leader that is silent so long is given up
-	SnapshotEvery uint64        // entries between snapshots
+	SnapshotEvery uint64        // entries between snapshots, at most
+	SnapshotBytes uint64        // bytes of entries between snapshots, at most
 	Trailing      uint64        // entries that stay behind a snapshot, for members that are a little late
 	Log           *log.Logger
 	Fatal         func(error) // ends the process: after a failed write nobody knows what is on disk
@@ -69,8 +72,11 @@ type Node struct {
 	asker   *http.Client
 	numbers *numbers
 	zap     *zap.Logger
+	applier *applier
+	seldom  *log.Logger // to cfg.Log, for what others can cause as often as they like
 
-	lead, term, commit, applied, saved uint64 // atomic; saved is the index of the last snapshot
+	lead, term, commit, applied uint64 // atomic
+	saved, received             uint64 // atomic: the index of the last snapshot, and of the last one of a leader since the start
 
 	mu      sync.Mutex
 	waiting map[uint64]chan outcome  // proposals of this member, by their numbers
@@ -93,17 +99,22 @@ type Node struct {
 	number           uint64 // of this start
 	began            reach  // of this start
 
-	conf     raftpb.ConfState // of the loop
-	isLeader bool             // of the loop
-	changed  []changeOutcome  // of the loop: changes of members that nobody was told of yet
-	isSaving bool             // of the loop: a snapshot is being written
-	marked   mark             // of the loop
-	markFile *os.File
-	retryAt  time.Time // of the loop: no snapshot before
+	// What follows is of the loop.
+	conf      raftpb.ConfState
+	isLeader  bool
+	changed   []changeOutcome // changes of members that nobody was told of yet
+	handed    uint64          // the last entry that the applier has got
+	unsnapped uint64          // bytes of entries that are in no snapshot yet
+	isSaving  bool            // a snapshot is being written
+	frozen    uint64          // bytes of entries that are in that one and in none before
+	retryAt   time.Time       // no snapshot before
+	marked    mark
+	markFile  *os.File
 
 	readers    chan struct{}
 	snapshots  chan chan error
 	written    chan error
+	spoilt     chan raftpb.SnapshotMetadata // snapshots that could not be sent
 	leaving    chan uint64
 	hearings   chan hearing
 	stop, done chan struct{}
@@ -117,7 +128,8 @@ type outcome struct {
 
 // Start begins a member, or goes on with the one that the folder has.
 func Start(cfg Config, machine engine.Machine) (*Node, error) {
-	n := &Node{cfg: cfg, machine: machine, storage: raft.NewMemoryStorage(), waiting: map[uint64]chan outcome{},
+	n := &Node{cfg: cfg, machine: machine, storage: raft.NewMemoryStorage(), applier: newApplier(),
+		seldom: ratelog.New(cfg.Log, 10, 10*time.Second), spoilt: make(chan raftpb.SnapshotMetadata), waiting: map[uint64]chan outcome{},
 		reads: map[uint64]chan uint64{}, members: map[uint64]engine.Member{},
 		removed: map[uint64]bool{}, heard: heard{at: map[uint64]time.Time{}}, starts: map[uint64]start{},
 		vouched: map[uint64]start{}, hearings: make(chan hearing), round: newRound(), readers: make(chan struct{}, 1),
@@ -127,6 +139,7 @@ func Start(cfg Config, machine engine.Machine) (*Node, error) {
 		n.release()
 		return nil, err
 	}
+	go n.applier.run()
 	go n.loop()
 	go n.readLoop()
 	go n.announce()
@@ -200,6 +213,9 @@ func (n *Node) snapFolder() string { return filepath.Join(n.cfg.Dir, "snap") }
 func (n *Node) Propose(ctx context.Context, payload []byte) (interface{}, error) {
 	if atomic.LoadUint64(&n.lead) == raft.None {
 		return nil, engine.ErrNoLeader
+	}
+	if n.isBehind() {
+		return nil, engine.ErrBusy
 	}
 	if err := n.machine.Check(payload); err != nil {
 		return nil, err

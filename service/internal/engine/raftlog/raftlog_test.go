@@ -39,9 +39,16 @@ type list struct {
 	entries []string
 	index   uint64
 	fault   error // what Apply returns
+	// What Apply and Restore wait for before they begin, if it is not nil.
+	beforeApply   func(payload string)
+	beforeRestore func()
+	forgets       bool // the entries, so that it stays small
 }
 
 func (l *list) Apply(index uint64, payload []byte) (interface{}, error) {
+	if l.beforeApply != nil {
+		l.beforeApply(string(payload))
+	}
 	l.mu.Lock()
 	defer l.mu.Unlock()
 	if index <= l.index {
@@ -53,7 +60,9 @@ func (l *list) Apply(index uint64, payload []byte) (interface{}, error) {
 			return i + 1, l.fault
 		}
 	}
-	l.entries = append(l.entries, string(payload))
+	if !l.forgets {
+		l.entries = append(l.entries, string(payload))
+	}
 	return len(l.entries), l.fault
 }
 
@@ -66,10 +75,7 @@ func (l *list) all() []string {
 func (l *list) Freeze() func(io.Writer) error {
 	l.mu.Lock()
 	defer l.mu.Unlock()
-	text, err := json.Marshal(struct {
-		Index   uint64
-		Entries []string
-	}{l.index, l.entries})
+	text, err := json.Marshal(content{l.index, l.entries})
 	return func(w io.Writer) error {
 		if err == nil {
 			_, err = fmt.Fprintf(w, "%08x%s", crc32.ChecksumIEEE(text), text)
@@ -80,32 +86,34 @@ func (l *list) Freeze() func(io.Writer) error {
 
 func (l *list) Check([]byte) error { return nil }
 
+// A content is what a snapshot of a list has.
+type content struct {
+	Index   uint64
+	Entries []string
+}
+
 func (l *list) Verify(r io.Reader) error {
-	_, err := l.read(r)
+	_, err := readContent(r)
 	return err
 }
 
-func (l *list) read(r io.Reader) ([]byte, error) {
+func readContent(r io.Reader) (found content, err error) {
 	text, err := io.ReadAll(r)
 	if err != nil {
-		return nil, err
+		return found, err
 	}
 	if len(text) < 8 || fmt.Sprintf("%08x", crc32.ChecksumIEEE(text[8:])) != string(text[:8]) {
-		return nil, fmt.Errorf("%w: its list", engine.ErrDamaged)
+		return found, fmt.Errorf("%w: its list", engine.ErrDamaged)
 	}
-	return text[8:], nil
+	return found, json.Unmarshal(text[8:], &found)
 }
 
 func (l *list) Restore(r io.Reader) error {
-	text, err := l.read(r)
+	if l.beforeRestore != nil {
+		l.beforeRestore()
+	}
+	found, err := readContent(r)
 	if err != nil {
-		return err
-	}
-	var found struct {
-		Index   uint64
-		Entries []string
-	}
-	if err := json.Unmarshal(text, &found); err != nil {
 		return err
 	}
 	l.mu.Lock()
@@ -135,8 +143,8 @@ func (s *said) String() string {
 func configOf(t *testing.T, folder string, self engine.Member, members ...engine.Member) (Config, *said) {
 	words := &said{}
 	return Config{Dir: folder, Name: "seven", New: true, Patience: long, Self: self, Members: members, Listen: self.Peer,
-		Election:      300 * time.Millisecond,
-		SnapshotEvery: 1000, Trailing: 100, Log: log.New(words, "", 0), Fatal: func(err error) {
+		Election: 300 * time.Millisecond, SnapshotEvery: 1000, SnapshotBytes: 1 << 30, Trailing: 100,
+		Log: log.New(words, "", 0), Fatal: func(err error) {
 			t.Errorf("member %d: %v", self.ID, err)
 			select {} // (it never returns)
 		}}, words
@@ -145,12 +153,17 @@ func configOf(t *testing.T, folder string, self engine.Member, members ...engine
 func begin(t *testing.T, cfg Config) (*Node, *list) {
 	t.Helper()
 	machine := &list{}
+	return beginWith(t, cfg, machine), machine
+}
+
+func beginWith(t *testing.T, cfg Config, machine *list) *Node {
+	t.Helper()
 	n, err := Start(cfg, machine)
 	if err != nil {
 		t.Fatal(err)
 	}
 	t.Cleanup(n.Close)
-	return n, machine
+	return n
 }
 
 // long is how long something may take on a busy machine before it counts as never.
@@ -612,7 +625,21 @@ func memberAt(t *testing.T, id uint64) engine.Member {
 
 func (g *group) start(id uint64) {
 	g.t.Helper()
-	g.nodes[id], g.machines[id] = begin(g.t, g.configs[id])
+	g.startWith(id, &list{})
+}
+
+func (g *group) startWith(id uint64, machine *list) {
+	g.t.Helper()
+	g.nodes[id], g.machines[id] = beginWith(g.t, g.configs[id], machine), machine
+}
+
+// says collects what the members say that are here.
+func (g *group) says() *said {
+	words := &said{}
+	for _, n := range g.nodes {
+		n.cfg.Log.SetOutput(words)
+	}
+	return words
 }
 
 func (g *group) leader() uint64 {

@@ -7,14 +7,17 @@ import (
 	"fmt"
 	"hash/crc32"
 	"io"
+	"math"
 	"os"
 	"path/filepath"
+	"sort"
 	"strings"
 	"sync/atomic"
 	"time"
 
 	"go.etcd.io/etcd/etcdserver/api/snap"
 	"go.etcd.io/etcd/pkg/fileutil"
+	"go.etcd.io/etcd/pkg/types"
 	"go.etcd.io/etcd/raft"
 	"go.etcd.io/etcd/raft/raftpb"
 	"go.etcd.io/etcd/wal/walpb"
@@ -27,6 +30,8 @@ const (
 	mostHead = 1 << 20
 	// After a snapshot that could not be written the next one waits so long.
 	pause = 30 * time.Second
+	// mostTrailing is how many bytes of entries stay behind a snapshot.
+	mostTrailing = 16 << 20
 )
 
 var table = crc32.MakeTable(crc32.Castagnoli)
@@ -66,14 +71,15 @@ func readHead(r io.Reader) (head, error) {
 	return head, json.Unmarshal(text, &head)
 }
 
-// trySnapshot begins to write a snapshot of now beside the loop.
+// trySnapshot begins to write a snapshot of what was handed over until now, beside the loop.
 func (n *Node) trySnapshot() error {
 	if n.isSaving {
 		return engine.ErrBusy
 	}
 	n.isSaving = true
-	index, conf, head, write := atomic.LoadUint64(&n.applied), n.conf, n.head(), n.machine.Freeze()
-	go func() { n.written <- n.write(index, conf, head, write) }()
+	n.frozen, n.unsnapped = n.unsnapped, 0
+	index, conf, head := n.handed, n.conf, n.head()
+	n.applier.add(func() { n.freeze(index, conf, head) })
 	return nil
 }
 
@@ -82,6 +88,7 @@ func (n *Node) hasWritten(err error) {
 	n.isSaving = false
 	if err != nil {
 		n.cfg.Log.Printf("a snapshot was not made: %v", err) // the log stays: the next one will do
+		n.unsnapped += n.frozen
 		n.retryAt = time.Now().Add(pause)
 	}
 }
@@ -92,18 +99,55 @@ func (n *Node) write(index uint64, conf raftpb.ConfState, head head, write func(
 	}
 	made, err := n.storage.CreateSnapshot(index, &conf, nil) // raft's own snapshot is only its metadata
 	if err == raft.ErrSnapOutOfDate {
-		return nil // one of the leader came meanwhile, or it is the last one
-	} else if err != nil {
+		if made, err = n.storage.Snapshot(); made.Metadata.Index != index {
+			return err // one of the leader came meanwhile
+		} // else it is the last one, which was perhaps set aside
+	}
+	if err != nil {
 		return err
 	}
 	n.record(made)
 	atomic.StoreUint64(&n.saved, index)
-	if index > n.cfg.Trailing {
-		if err := n.storage.Compact(index - n.cfg.Trailing); err != nil && err != raft.ErrCompacted {
-			return err
-		}
+	if err := n.compact(index); err != nil {
+		return err
 	}
 	return n.purge()
+}
+
+// compact forgets the entries that are in a snapshot, but for some that members who are a little late still need: at most so many,
+// and so many bytes.
+func (n *Node) compact(index uint64) error {
+	first, err := n.storage.FirstIndex()
+	if err != nil {
+		return err
+	}
+	if index > n.cfg.Trailing && index-n.cfg.Trailing >= first {
+		first = index - n.cfg.Trailing + 1
+	}
+	if first <= index {
+		entries, err := n.storage.Entries(first, index+1, math.MaxUint64)
+		if err == raft.ErrCompacted {
+			return nil // one of the leader came meanwhile
+		} else if err != nil {
+			return err
+		}
+		first += leastLeft(entries)
+	}
+	if err := n.storage.Compact(first - 1); err != raft.ErrCompacted {
+		return err
+	}
+	return nil
+}
+
+// leastLeft is how many of the entries have to go, so that those behind them have no more bytes than may stay.
+func leastLeft(entries []raftpb.Entry) uint64 {
+	bytes := 0
+	for i := len(entries) - 1; i >= 0; i-- {
+		if bytes += len(entries[i].Data); bytes > mostTrailing {
+			return uint64(i + 1)
+		}
+	}
+	return 0
 }
 
 // record saves the metadata of a snapshot whose file is there, and then notes it in the log: a record without a file could not
@@ -182,6 +226,32 @@ func (n *Node) purgeSnapshots(kept map[uint64]bool, last uint64) error {
 	return nil
 }
 
+// purgeBroken keeps the last two of the snapshots that were set aside.
+func (n *Node) purgeBroken() error {
+	for _, pattern := range []string{"*.snap.broken", "*.snap.db.broken"} {
+		found, err := filepath.Glob(filepath.Join(n.snapFolder(), pattern))
+		if err != nil {
+			return err
+		}
+		sort.Slice(found, func(i, j int) bool { return changedAt(found[i]).After(changedAt(found[j])) })
+		for i := 2; i < len(found); i++ {
+			if err := os.Remove(found[i]); err != nil && !errors.Is(err, os.ErrNotExist) {
+				return err
+			}
+		}
+	}
+	return nil
+}
+
+// changedAt is when a file was written last.
+func changedAt(path string) time.Time {
+	info, err := os.Stat(path)
+	if err != nil {
+		return time.Time{}
+	}
+	return info.ModTime()
+}
+
 // purgeLog removes the files of the log that have only entries up to an index. Each removal is synced: a power cut that left an
 // older file without a later one would leave a log that no start can read.
 func (n *Node) purgeLog(upTo uint64) error {
@@ -210,26 +280,57 @@ func (n *Node) purgeLog(upTo uint64) error {
 // sendSnapshot sends the file of the last snapshot beside the message. Raft has to hear how it went, on every path, and not
 // from the loop: else it waits for the member for ever, or the loop for itself.
 func (n *Node) sendSnapshot(message raftpb.Message) {
+	m := message.Snapshot.Metadata
 	file, size, err := n.toSend(message)
 	if err != nil {
-		n.cfg.Log.Printf("snapshot for member %d: %v", message.To, err)
+		n.seldom.Printf("snapshot at %d for member %d: %v", m.Index, message.To, err)
 		go n.raft.ReportSnapshot(message.To, raft.SnapshotFailure)
 		return
 	}
-	n.peers.SendSnapshot(*snap.NewMessage(message, file, size))
+	n.cfg.Log.Printf("the snapshot at %d is being sent to member %d, %d bytes", m.Index, message.To, size)
+	sent, begun := snap.NewMessage(message, n.verified(file, m), size), time.Now()
+	go func() {
+		if <-sent.CloseNotify() {
+			n.cfg.Log.Printf("the snapshot at %d was sent to member %d in %v", m.Index, message.To, since(begun))
+		} else {
+			n.seldom.Printf("the snapshot at %d was not taken by member %d", m.Index, message.To)
+		}
+	}()
+	n.peers.SendSnapshot(*sent)
+}
+
+// verified is a file that is checked while it is sent.
+func (n *Node) verified(file *os.File, m raftpb.SnapshotMetadata) io.ReadCloser {
+	return newVerified(file, n.machine.Verify, func(why error) {
+		n.cfg.Log.Printf("the snapshot at %d on this disk can't be sent: %v", m.Index, why)
+		select {
+		case n.spoilt <- m:
+		case <-n.done:
+		}
+	})
+}
+
+// replaceSpoilt sets a snapshot aside that could not be sent, and makes another.
+func (n *Node) replaceSpoilt(m raftpb.SnapshotMetadata) {
+	n.must("a damaged snapshot can't be renamed", n.setAside(m))
+	n.trySnapshot() // (one that is being written already will do)
 }
 
 func (n *Node) toSend(message raftpb.Message) (*os.File, int64, error) {
-	conf := &message.Snapshot.Metadata.ConfState
-	if !has(conf.Voters, message.To) && !has(conf.Learners, message.To) {
+	m := &message.Snapshot.Metadata
+	if n.peers.Get(types.ID(message.To)) == nil {
+		return nil, 0, errors.New("it is not spoken to any more")
+	}
+	if !has(m.ConfState.Voters, message.To) && !has(m.ConfState.Learners, message.To) {
 		// Raft offers the last one, which is from before this member was added. The member would ignore it, for ever if the
 		// group needs it for a quorum. So make one of now: raft asks again after a failure.
 		n.trySnapshot()
 		return nil, 0, errors.New("the last one is older than the member; one is made now")
 	}
-	file, err := os.Open(n.fileOf(message.Snapshot.Metadata.Index))
+	file, err := os.Open(n.fileOf(m.Index))
 	if err != nil {
-		return nil, 0, err
+		n.trySnapshot() // it was set aside
+		return nil, 0, fmt.Errorf("%w; one is made now", err)
 	}
 	info, err := file.Stat()
 	if err != nil {
@@ -237,6 +338,25 @@ func (n *Node) toSend(message raftpb.Message) (*os.File, int64, error) {
 		return nil, 0, err
 	}
 	return file, info.Size(), nil
+}
+
+// hasWhole tells whether a message of another member may go to raft: that with a snapshot only if its file is here and is whole. One
+// that is not is set aside, so that the next one is not taken for it.
+func (n *Node) hasWhole(message *raftpb.Message) bool {
+	if message.Type != raftpb.MsgSnap {
+		return true
+	}
+	m, begun := message.Snapshot.Metadata, time.Now()
+	err := n.check(m)
+	if err == nil {
+		n.cfg.Log.Printf("the snapshot at %d came from member %d and was checked in %v", m.Index, message.From, since(begun))
+		return true
+	}
+	n.seldom.Printf("a snapshot at %d from member %d is refused: %v", m.Index, message.From, err)
+	if errors.Is(err, engine.ErrDamaged) {
+		n.must("a damaged snapshot can't be renamed", n.setAside(m))
+	}
+	return false
 }
 
 func has(ids []uint64, id uint64) bool {
