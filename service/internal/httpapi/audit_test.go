@@ -38,6 +38,15 @@ func (l *lines) take() []string {
 	return all
 }
 
+// takeLine takes what was said, and waits until there is something if that is expected: the line comes after the answer.
+func (l *lines) takeLine(isExpected bool) []string {
+	for end := time.Now().Add(time.Minute); ; time.Sleep(time.Millisecond) {
+		if all := l.take(); len(all) > 0 || !isExpected || time.Now().After(end) {
+			return all
+		}
+	}
+}
+
 func TestWhatOperatorsAskIsWrittenDown(t *testing.T) {
 	said := &lines{}
 	s := newService(t, func(with *setup) { with.Audit = said.add })
@@ -66,7 +75,7 @@ func TestWhatOperatorsAskIsWrittenDown(t *testing.T) {
 			authorization = "Bearer " + it.token
 		}
 		s.ask(it.method, it.path, it.body, header("Authorization", authorization))
-		said := said.take()
+		said := said.takeLine(it.want != "")
 		if len(said) != map[bool]int{true: 0, false: 1}[it.want == ""] {
 			t.Errorf("%+v: %q", it, said)
 			continue

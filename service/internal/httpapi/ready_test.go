@@ -72,8 +72,8 @@ func TestAFullDiskIsToldByName(t *testing.T) {
 			t.Errorf("%v: %d %s", it[:2], answer.StatusCode, text)
 		}
 	}
-	if answer, text := s.ask("GET", "/books/p0?now=1", ""); answer.StatusCode != 200 || !strings.Contains(text, `"n":1,"opens":1`) {
+	if answer, text := s.ask("GET", "/books/p0?now=1", ""); answer.StatusCode != 200 || !strings.Contains(text, `"n":1,"opens":1024`) {
 		t.Error(text)
 	}
-	s.expect("DELETE", "/books/p0", `{"at":1,"opens":1}`, 200, `{"n":1,"opens":1}`)
+	s.expect("DELETE", "/books/p0", `{"at":1,"opens":1024}`, 200, `{"n":1,"opens":1024}`)
 }

@@ -220,8 +220,8 @@ func TestASnapshotIsOfOneMoment(t *testing.T) {
 	}
 	ctx, cancel := context.WithTimeout(context.Background(), long)
 	defer cancel()
-	learner := engine.Member{ID: 2, Peer: testports.Free(t), Client: "127.0.0.1:1", Learner: true}
-	if err := n.Add(ctx, learner); err != nil { // (it waits for no book)
+	learner := engine.Member{ID: 2, Peer: testports.Free(t), Client: "127.0.0.1:2", Learner: true}
+	if _, err := n.Add(ctx, learner, false); err != nil { // (it waits for no book)
 		t.Fatal(err)
 	}
 	if n.Status().Applied >= at {

@@ -46,7 +46,7 @@ func newFaked(t *testing.T) (*Node, *fakeRaft) {
 		t.Fatal(err)
 	}
 	f := &fakeRaft{reads: make(chan uint64, 1000), proposed: make(chan context.Context, 10)}
-	n := &Node{cfg: Config{Self: alone}, raft: f, numbers: numbers, waiting: map[uint64]chan outcome{}, reads: map[uint64]chan uint64{},
+	n := &Node{cfg: Config{Self: alone}, machine: &list{}, raft: f, numbers: numbers, waiting: map[uint64]chan outcome{}, reads: map[uint64]chan uint64{},
 		round: newRound(), readers: make(chan struct{}, 1), snapshots: make(chan chan error), done: make(chan struct{})}
 	go n.readLoop()
 	t.Cleanup(func() { close(n.done) })

@@ -114,17 +114,17 @@ func post(t *testing.T, g *group, to uint64, message raftpb.Message, file []byte
 	}
 	body := binary.BigEndian.AppendUint64(nil, uint64(len(text)))
 	body = append(append(body, text...), file...)
-	url := "http://" + g.configs[to].Self.Peer
+	path := "/raft/snapshot"
 	if file == nil {
-		url, body = url+"/raft", text
-	} else {
-		url += "/raft/snapshot"
+		path, body = "/raft", text
 	}
+	sender := g.nodes[message.From].ownStart()
+	url := "http://" + g.configs[to].Self.Peer + path + "?" + sender.query(0)
 	r, err := http.NewRequest("POST", url, bytes.NewReader(body))
 	if err != nil {
 		t.Fatal(err)
 	}
-	for name, value := range map[string]string{"X-Etcd-Cluster-ID": types.ID(g.configs[to].Group).String(), "X-Server-From": "2",
+	for name, value := range map[string]string{"X-Etcd-Cluster-ID": types.ID(g.nodes[to].identity.Group).String(), "X-Server-From": types.ID(message.From).String(),
 		"X-Server-Version": "3.4.0", "X-Min-Cluster-Version": "3.0.0"} {
 		r.Header.Set(name, value)
 	}
@@ -161,7 +161,7 @@ func TestADamagedSnapshotThatComesEndsNobody(t *testing.T) {
 	if status := post(t, g, to, message(2000000), good); status != 422 {
 		t.Errorf("whole, but of no member: status %d", status)
 	}
-	if status := post(t, g, to, message(3000000), nil); status != 422 {
+	if status := post(t, g, to, message(3000000), nil); status != 400 {
 		t.Errorf("a message without a file: status %d", status)
 	}
 	for i := 2; i <= 20; i++ {
