@@ -559,6 +559,19 @@ func TestNoStreamGoesOnInABookOfTheSameName(t *testing.T) {
 	}
 }
 
+func TestTheGroupGoesToOtherRulesAndAnotherForm(t *testing.T) {
+	s := newService(t, nil)
+	now := fmt.Sprintf(`{"program":%[1]d,"group":%[1]d,"form":2,"saved":false}`, book.Rules())
+	s.expect("GET", "/rules", "", 200, now)
+	s.refused("PUT", "/rules", `{"form":3}`, 400, `the field "rules" has to be`)
+	s.refused("PUT", "/rules", `{"rules":2,"form":300}`, 400, "there is no form 300")
+	s.expect("PUT", "/rules", `{"rules":2,"form":3}`, 200,
+		fmt.Sprintf(`{"program":%[1]d,"group":%[1]d,"form":2,"next":2,"next_form":3,"saved":false}`, book.Rules()))
+	s.refused("POST", "/books/p0/call", `{"command":"tick"}`, 503, "the group goes from rules 1 to rules 2 in form 3")
+	s.expect("PUT", "/rules", fmt.Sprintf(`{"rules":%d}`, book.Rules()), 200, now)
+	s.refused("POST", "/books/p0/call", `{"command":"nothing"}`, 400, "not a command")
+}
+
 func TestVersionAndMembers(t *testing.T) {
 	s := newService(t, nil)
 	s.engine.Change(func(e *testengine.Local) { e.Members = []engine.Member{{ID: 1, Peer: "h:1", Client: "h:2"}} })

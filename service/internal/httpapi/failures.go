@@ -110,6 +110,7 @@ var failuresOf = []struct {
 	code   string
 }{
 	{state.ErrNoBook, http.StatusNotFound, "no_book"},
+	{state.ErrDiffers, http.StatusServiceUnavailable, "differs"},
 	{book.ErrNotFound, http.StatusNotFound, "not_found"},
 	{book.ErrUndetermined, http.StatusConflict, "undetermined"},
 	{replica.ErrFull, http.StatusTooManyRequests, "too_many_requests"},

@@ -51,7 +51,7 @@ func TestDigestsOfMembersAreAlike(t *testing.T) {
 				t.Error(err)
 			}
 		},
-		"another key":     func(e *bookEntry) { e.keys.rows[0].name.owner = "n" },
+		"another key":     func(e *bookEntry) { e.keys.rows[0].name = nameOf("n", "held") },
 		"another answer":  func(e *bookEntry) { e.keys.rows[0].told.holder = "w3" },
 		"a key forgotten": func(e *bookEntry) { e.keys.forgot.Position++ },
 		"another holder":  func(e *bookEntry) { e.holders = nil },

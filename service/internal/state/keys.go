@@ -10,20 +10,30 @@ import (
 // oldest is forgotten first, by count.
 const MostKeys = 4096
 
-// A keyName is a key of an owner.
-type keyName struct{ owner, key string }
+// A keyName is a key of an owner: the length of the owner's name, that name, and the key. (One text, since there are many)
+type keyName string
+
+func nameOf(owner, key string) keyName {
+	return keyName([]byte{byte(len(owner)), byte(len(owner) >> 8)}) + keyName(owner+key)
+}
+
+func (n keyName) parts() (owner, key string) {
+	length := 2 + int(n[0]) + int(n[1])<<8
+	return string(n[2:length]), string(n[length:])
+}
 
 // A told is what a keyed request was answered when it was made.
 type told struct {
-	at      Stamp
+	at      uint64 // the number of the stamp at which it was made
 	made    uint64
 	opens   uint64
+	holder  string
 	reply   book.Reply
 	isAgain bool
-	holder  string
 }
 
-// A kept is a request that came with a key, and its answer.
+// A kept is a request that came with a key, and its answer. A book has thousands, so the fields of both stand where they take little
+// room.
 type kept[A comparable] struct {
 	name  keyName
 	asked A
@@ -35,12 +45,12 @@ type keys[A comparable] struct {
 	most   int
 	forgot Stamp // of the newest one that is forgotten; before that the stamp at which these keys began
 	rows   []kept[A]
-	oldest int // the place of the oldest in rows, once there are as many as may be
-	places map[keyName]int
+	oldest int                // the place of the oldest in rows, once there are as many as may be
+	places map[keyName]uint16 // of rows
 }
 
 func newKeys[A comparable](most int, began Stamp) keys[A] {
-	return keys[A]{most: most, forgot: began, places: map[keyName]int{}}
+	return keys[A]{most: most, forgot: began, places: map[keyName]uint16{}}
 }
 
 // tell is the answer to an item whose key tells it: because it is known, or because it may be forgotten. It returns false for an
@@ -52,7 +62,7 @@ func (k *keys[A]) tell(item *Item, asked A) (Answer, bool) {
 	if item.Key == "" {
 		return Answer{}, false
 	}
-	place, isKnown := k.places[keyName{item.Owner, item.Key}]
+	place, isKnown := k.places[nameOf(item.Owner, item.Key)]
 	switch {
 	case isKnown && k.rows[place].asked != asked:
 		return reject(KeyReused, "the key was used for another request"), true
@@ -71,20 +81,20 @@ func (k *keys[A]) keep(at Stamp, item *Item, asked A, answer Answer) {
 	if item.Key == "" || answer.Rejected != 0 {
 		return
 	}
-	k.add(kept[A]{keyName{item.Owner, item.Key}, asked,
-		told{at, answer.Made, answer.Opens, answer.Reply, answer.IsAgain, answer.Holder}})
+	k.add(kept[A]{nameOf(item.Owner, item.Key), asked,
+		told{at.Number(), answer.Made, answer.Opens, answer.Holder, answer.Reply, answer.IsAgain}})
 }
 
 func (k *keys[A]) add(row kept[A]) {
 	if len(k.rows) < k.most {
-		k.places[row.name] = len(k.rows)
+		k.places[row.name] = uint16(len(k.rows))
 		k.rows = append(k.grown(), row)
 		return
 	}
 	gone := &k.rows[k.oldest]
 	delete(k.places, gone.name)
-	k.forgot = gone.told.at
-	k.places[row.name], *gone = k.oldest, row
+	k.forgot = stampOf(gone.told.at)
+	k.places[row.name], *gone = uint16(k.oldest), row
 	k.oldest = (k.oldest + 1) % k.most
 }
 
@@ -111,7 +121,8 @@ func (k *keys[A]) each(do func(*kept[A])) {
 func appendKeys[A comparable](b []byte, k *keys[A], appendAsked func([]byte, A) []byte) []byte {
 	b = little.AppendUint32(appendStamp(b, k.forgot), uint32(len(k.rows)))
 	k.each(func(row *kept[A]) {
-		b = appendText(appendText(b, row.name.owner), row.name.key)
+		owner, key := row.name.parts()
+		b = appendText(appendText(b, owner), key)
 		b = appendAsked(b, row.asked)
 		b = appendTold(b, &row.told)
 	})
@@ -121,12 +132,13 @@ func appendKeys[A comparable](b []byte, k *keys[A], appendAsked func([]byte, A) 
 // readKeys takes keys, of which no two are alike and none was made before another one.
 func readKeys[A comparable](r *reader, most int, readAsked func(*reader) A) keys[A] {
 	k := newKeys[A](most, r.stamp())
-	count, before := r.u32(), k.forgot
+	count, before := r.u32(), k.forgot.Number()
 	r.isBad = r.isBad || count > uint32(most)
 	for ; count > 0 && !r.isBad; count-- {
-		row := kept[A]{name: keyName{r.text(), r.text()}, asked: readAsked(r), told: r.told()}
+		owner, key := r.text(), r.text()
+		row := kept[A]{name: nameOf(owner, key), asked: readAsked(r), told: r.told()}
 		_, isThere := k.places[row.name]
-		r.isBad = r.isBad || isThere || row.name.key == "" || !row.told.at.isAbove(before)
+		r.isBad = r.isBad || isThere || key == "" || len(owner) > mostOwner || row.told.at <= before
 		before = row.told.at
 		k.add(row)
 	}
@@ -134,55 +146,58 @@ func readKeys[A comparable](r *reader, most int, readAsked func(*reader) A) keys
 }
 
 func appendTold(b []byte, t *told) []byte {
-	b = appendStamp(b, t.at)
-	b = little.AppendUint64(little.AppendUint64(b, t.made), t.opens)
-	b = appendReply(b, &t.reply)
-	return appendText(appendBool(b, t.isAgain), t.holder)
+	for _, number := range []uint64{t.at, t.made, t.opens} {
+		b = little.AppendUint64(b, number)
+	}
+	return appendBool(appendReply(appendText(b, t.holder), &t.reply), t.isAgain)
 }
 
 func (r *reader) told() told {
-	return told{at: r.stamp(), made: r.u64(), opens: r.u64(), reply: r.reply(), isAgain: r.bool(), holder: r.text()}
+	return told{r.u64(), r.u64(), r.u64(), r.text(), r.reply(), r.bool()}
 }
 
 // A place is where a book has to stand, if anywhere: a Position that can be compared.
 type place struct {
+	Position
 	is bool
-	at Position
 }
 
 func placeOf(at *Position) place {
 	if at == nil {
 		return place{}
 	}
-	return place{true, *at}
+	return place{*at, true}
 }
 
 func (p place) position() *Position {
 	if !p.is {
 		return nil
 	}
-	return &p.at
+	return &p.Position
 }
 
 // An askedCall is a call without its key.
 type askedCall struct {
 	worker  string
-	session uint8
 	command book.Command
-	at      place
+	at      Position
+	isAt    bool
+	session uint8
 }
 
 func (item *Item) askedCall() askedCall {
-	return askedCall{item.Worker, item.Session, item.Command, placeOf(item.At)}
+	at := placeOf(item.At)
+	return askedCall{item.Worker, item.Command, at.Position, at.is, item.Session}
 }
 
 func appendAskedCall(b []byte, a askedCall) []byte {
 	b = append(appendText(b, a.worker), a.session)
-	return appendPosition(appendCommand(b, a.command), a.at.position())
+	return appendPosition(appendCommand(b, a.command), place{a.at, a.isAt}.position())
 }
 
 func (r *reader) askedCall() askedCall {
-	return askedCall{r.text(), r.u8(), r.command(), placeOf(r.position())}
+	item := Item{Worker: r.text(), Session: r.u8(), Command: r.command(), At: r.position()}
+	return item.askedCall()
 }
 
 // An askedChange is a Create, Reopen, Remove or ChangeRules without its key. It has its texts as their checksum.

@@ -101,7 +101,7 @@ func TestNoRequestIsMadeTwice(t *testing.T) {
 
 // checkKey compares the answer to a request with what is known of it.
 func checkKey(t *testing.T, q *request, answer Answer, kept ringModel) {
-	name := keyName{q.item.Owner, q.item.Key}
+	name := nameOf(q.item.Owner, q.item.Key)
 	wasMade, isKept := q.first.At != Stamp{}, kept.has(q.ring, name)
 	if isKept {
 		again := q.first

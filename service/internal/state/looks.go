@@ -77,7 +77,7 @@ func (v *View) Holders() ([]Holder, error) {
 	return holders, err
 }
 
-// Look calls a function with a book.
+// Look calls a function with a book. The function may not look at another one: an entry may wait for both.
 func (s *State) Look(name string, look func(*View) error) error {
 	for {
 		e, err := s.toLook(name)

@@ -13,6 +13,9 @@ const positionBits = 10
 // Number is the stamp as one number, which rises as stamps do.
 func (s Stamp) Number() uint64 { return s.Index<<positionBits | uint64(s.Position) }
 
+// stampOf is the stamp that has a number.
+func stampOf(number uint64) Stamp { return Stamp{number >> positionBits, uint32(number % MostItems)} }
+
 func (s Stamp) isAbove(other Stamp) bool {
 	return s.Index > other.Index || s.Index == other.Index && s.Position > other.Position
 }

@@ -58,11 +58,11 @@ func reject(rejection Rejection, words string) Answer {
 type State struct {
 	knobs Knobs
 	ours  version
-	index uint64            // of the last entry that was applied, or is being applied
 	keys  keys[askedChange] // of the requests that make, open and remove books, and change the rules
 	held  []*bookEntry      // the books that the entry has named so far: no look comes between its items
 
 	mu      sync.RWMutex // of what follows; each book has a lock of its own
+	index   uint64       // of the last entry that was applied, or is being applied
 	books   map[string]*bookEntry
 	group   group
 	freezes []*freeze // the snapshots that are being written
@@ -100,7 +100,7 @@ func NewWith(knobs Knobs) *State {
 // means that this member can't go on: its books would not be those of the others.
 func (s *State) Apply(index uint64, payload []byte) (interface{}, error) {
 	defer s.release()
-	s.index = index
+	s.begin(index)
 	answers, err := s.entry(payload)
 	if err != nil {
 		return nil, fmt.Errorf("entry %d of the log: %w", index, err)
@@ -109,6 +109,12 @@ func (s *State) Apply(index uint64, payload []byte) (interface{}, error) {
 		answers[i].At = Stamp{index, uint32(i)}
 	}
 	return answers, nil
+}
+
+func (s *State) begin(index uint64) {
+	s.mu.Lock()
+	defer s.mu.Unlock()
+	s.index = index
 }
 
 func (s *State) entry(payload []byte) ([]Answer, error) {

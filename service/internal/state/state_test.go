@@ -360,6 +360,15 @@ func TestOtherRulesAreRefusedByName(t *testing.T) {
 	p.rejected(answers.([]Answer)[0], OtherRules, fmt.Sprintf("the member has rules %d, and the group has rules %d", others, book.Rules()))
 	p.index = 2
 	p.expect(p.call("tick"), 1, "ticked 1 0")
+	none := withRules(1, call(t, "tick"))
+	none[1] = 0
+	for _, q := range []*State{p.s, New()} {
+		answers, err := q.Apply(3, none) // (which no library has)
+		if err != nil {
+			t.Fatal(err)
+		}
+		p.rejected(answers.([]Answer)[0], OtherRules, "there are no rules 0")
+	}
 	fresh := New() // the group's are not ours: this member is wrong here
 	want := fmt.Sprintf("is of rules %d, and this library has rules %d", others, book.Rules())
 	if _, err := fresh.Apply(1, withRules(others, &Item{Action: Create, Book: "p0", Nodes: twenty})); err == nil || !strings.Contains(err.Error(), want) {
