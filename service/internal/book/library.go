@@ -245,6 +245,14 @@ func OpenImage(nodes, image []byte) (*Book, error) {
 	return b, nil
 }
 
+// Begin makes a book over nodes, which begins in an image if there is one.
+func Begin(nodes, image []byte) (*Book, error) {
+	if len(image) == 0 {
+		return Open(nodes)
+	}
+	return OpenImage(nodes, image)
+}
+
 // Close frees the book. No other method may be called after it.
 func (b *Book) Close() {
 	C.lrc_embed_close(b.handle)

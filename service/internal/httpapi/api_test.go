@@ -614,7 +614,8 @@ func FuzzCall(f *testing.F) {
 		f.Add([]byte(text))
 	}
 	f.Fuzz(func(t *testing.T, text []byte) {
-		item, err := callOf(text, "p0")
+		asked, err := callOf(text, "p0")
+		item := asked.item
 		if err != nil {
 			if fail := failureOf(err); fail.Status != http.StatusBadRequest || fail.Words == "" {
 				t.Errorf("%q: %+v", text, fail)

@@ -1,7 +1,9 @@
 package httpapi
 
 import (
+	"math"
 	"net/http"
+	"strconv"
 
 	"lrcman/service/internal/book"
 	"lrcman/service/internal/replica"
@@ -9,16 +11,83 @@ import (
 )
 
 // calls are the requests that change books.
-type calls struct{ replica *replica.Replica }
+type calls struct {
+	replica *replica.Replica
+	judging chan struct{} // has one for each text that is being judged
+}
+
+// mostJudged is how many texts of nodes are judged at once: each takes the memory of a book, and a core.
+const mostJudged = 2
+
+func newCalls(r *replica.Replica) *calls { return &calls{r, make(chan struct{}, mostJudged)} }
+
+// A change is an item that a client asks for, and since when it has asked for it; nil: it does not tell.
+type change struct {
+	item  *state.Item
+	since *uint64
+}
+
+// changeOf is an item with the key that the parameters of a request give it.
+func changeOf(q *request, item *state.Item) (change, error) {
+	asked := change{item: item}
+	item.Key = q.query.Get("key")
+	if text := q.query.Get("since"); text != "" {
+		since, err := book.ParseNumber(text, math.MaxUint64)
+		if err != nil {
+			return asked, bad("the parameter \"since\" %v", err)
+		}
+		asked.since = &since
+	}
+	return asked, asked.check("parameter")
+}
+
+// check judges the key, which comes as a field or as a parameter.
+func (c *change) check(what string) error {
+	if !isWord(c.item.Key) {
+		return notWord(what, "key")
+	} else if c.since != nil && c.item.Key == "" {
+		return bad("the %s \"since\" takes a \"key\"", what)
+	}
+	return nil
+}
 
 // answerOf gives a client what an item was answered.
-func (c *calls) answerOf(q *request, item *state.Item) (state.Answer, error) {
-	answer, err := c.replica.Do(q.ctx, item)
-	if err != nil || answer.Rejected == 0 {
+func (c *calls) answerOf(q *request, asked change) (state.Answer, error) {
+	item, do := asked.item, c.replica.Do
+	if item.Key != "" {
+		item.Owner = q.owner()
+	}
+	if asked.since != nil {
+		item.Since, do = *asked.since, c.replica.DoSince
+	}
+	answer, err := do(q.ctx, item)
+	if err != nil {
 		return answer, err
+	}
+	q.w.Header().Set("Lrcmand-Index", strconv.FormatUint(answer.At.Index, 10))
+	if answer.Rejected == 0 {
+		return answer, nil
 	}
 	how := rejections[answer.Rejected]
 	return answer, &failure{Status: how.status, Code: how.code, Words: answer.Words}
+}
+
+// judge refuses nodes, and an image, that the library refuses: else they would stand in the log of all members first.
+func (c *calls) judge(q *request, nodes, image []byte) error {
+	select {
+	case c.judging <- struct{}{}:
+		defer func() { <-c.judging }()
+	case <-q.ctx.Done():
+		return replica.ErrLate
+	}
+	b, err := book.Begin(nodes, image)
+	if book.IsOfText(err) {
+		return &failure{Status: http.StatusUnprocessableEntity, Words: err.Error()}
+	} else if err != nil {
+		return err
+	}
+	b.Close()
+	return nil
 }
 
 // rejections are told with these statuses and codes.
@@ -64,7 +133,14 @@ func (c *calls) create(q *request) error {
 	if err != nil {
 		return err
 	}
-	answer, err := c.answerOf(q, item)
+	asked, err := changeOf(q, item)
+	if err != nil {
+		return err
+	}
+	if err := c.judge(q, item.Nodes, item.Image); err != nil {
+		return err
+	}
+	answer, err := c.answerOf(q, asked)
 	if err != nil {
 		return err
 	}
@@ -81,7 +157,18 @@ func (c *calls) reopen(q *request) error {
 	if err != nil {
 		return err
 	}
-	answer, err := c.answerOf(q, &state.Item{Action: state.Reopen, Book: q.names["book"], Nodes: text})
+	at, err := positionOf(q)
+	if err != nil {
+		return err
+	}
+	asked, err := changeOf(q, &state.Item{Action: state.Reopen, Book: q.names["book"], Nodes: text, At: at})
+	if err != nil {
+		return err
+	}
+	if err := c.judge(q, text, nil); err != nil {
+		return err
+	}
+	answer, err := c.answerOf(q, asked)
 	if err != nil {
 		return err
 	}
@@ -97,15 +184,19 @@ func (c *calls) remove(q *request) error {
 	if err != nil {
 		return err
 	}
-	at, err := positionOf(text)
+	at, err := removalOf(text)
 	if err != nil {
 		return err
 	}
-	answer, err := c.answerOf(q, &state.Item{Action: state.Remove, Book: q.names["book"], At: at})
+	asked, err := changeOf(q, &state.Item{Action: state.Remove, Book: q.names["book"], At: at})
 	if err != nil {
 		return err
 	}
-	return q.say(http.StatusOK, bookResponse{Made: answer.Made, Opens: answer.Opens})
+	answer, err := c.answerOf(q, asked)
+	if err != nil {
+		return err
+	}
+	return q.say(http.StatusOK, bookResponse{answer.Made, answer.Opens, answer.IsAgain})
 }
 
 // A callResponse is the answer to a call, and an entry of a log.
@@ -127,17 +218,18 @@ func (c *calls) call(q *request) error {
 	if err != nil {
 		return err
 	}
-	item, err := callOf(text, q.names["book"])
+	asked, err := callOf(text, q.names["book"])
 	if err != nil {
 		return err
 	}
+	item := asked.item
 	if err := q.require(commandRole(item.Command.Kind)); err != nil {
 		return err
 	}
 	if err := q.requireWorker(item.Worker); err != nil {
 		return err
 	}
-	answer, err := c.answerOf(q, item)
+	answer, err := c.answerOf(q, asked)
 	if err != nil {
 		return err
 	}

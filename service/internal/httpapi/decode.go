@@ -6,6 +6,7 @@ import (
 	"errors"
 	"fmt"
 	"io"
+	"math"
 	"mime"
 	"net/http"
 	"reflect"
@@ -120,41 +121,47 @@ type callBody struct {
 	Session *uint64 `json:"session"`
 	Command string  `json:"command"`
 	Key     string  `json:"key"`
+	Since   *uint64 `json:"since"`
 	Worker  string  `json:"worker"`
 	At      *uint64 `json:"at"`
 	Opens   *uint64 `json:"opens"`
 }
 
-// callOf is the item that the body of a call asks for.
-func callOf(text []byte, name string) (*state.Item, error) {
+// callOf is what the body of a call asks for.
+func callOf(text []byte, name string) (change, error) {
 	var body callBody
 	if err := decode(text, &body); err != nil {
-		return nil, err
+		return change{}, err
 	}
 	item := &state.Item{Action: state.Call, Book: name, Key: body.Key, Worker: body.Worker, Session: 1}
+	asked := change{item, body.Since}
 	if body.Session != nil {
 		if *body.Session < 1 || *body.Session > book.Sessions {
-			return nil, bad("the session is out of its range, 1 to %d: %d", book.Sessions, *body.Session)
+			return asked, bad("the session is out of its range, 1 to %d: %d", book.Sessions, *body.Session)
 		}
 		item.Session = uint8(*body.Session)
 	}
-	for field, text := range map[string]string{"key": body.Key, "worker": body.Worker} {
-		if !isWord(text) {
-			return nil, bad("the field %q has to be at most %d printable letters of ASCII without spaces", field, mostName)
-		}
+	if err := asked.check("field"); err != nil {
+		return asked, err
+	} else if !isWord(body.Worker) {
+		return asked, notWord("field", "worker")
 	}
 	if (body.At == nil) != (body.Opens == nil) {
-		return nil, bad("the fields \"at\" and \"opens\" come together")
+		return asked, bad("the fields \"at\" and \"opens\" come together")
 	}
 	if body.At != nil {
 		item.At = &state.Position{Made: *body.At, Opens: *body.Opens}
 	}
 	command, err := book.Parse(body.Command)
 	if err != nil {
-		return nil, bad("%v", err)
+		return asked, bad("%v", err)
 	}
 	item.Command = command
-	return item, nil
+	return asked, nil
+}
+
+func notWord(what, name string) error {
+	return bad("the %s %q has to be at most %d printable letters of ASCII without spaces", what, name, mostName)
 }
 
 // isWord tells whether a text may be a key or the name of a worker; it may be empty.
@@ -204,7 +211,7 @@ type positionBody struct {
 	Opens *uint64 `json:"opens"`
 }
 
-func positionOf(text []byte) (*state.Position, error) {
+func removalOf(text []byte) (*state.Position, error) {
 	var body positionBody
 	if err := decode(text, &body); err != nil {
 		return nil, err
@@ -213,6 +220,22 @@ func positionOf(text []byte) (*state.Position, error) {
 		return nil, bad("the fields \"at\" and \"opens\" are needed: the \"n\" and the \"opens\" of a look at the book")
 	}
 	return &state.Position{Made: *body.At, Opens: *body.Opens}, nil
+}
+
+// positionOf is where a book has to stand, as the parameters of a request say; nil if they don't.
+func positionOf(q *request) (*state.Position, error) {
+	at, opens := q.query.Get("at"), q.query.Get("opens")
+	if (at == "") != (opens == "") {
+		return nil, bad("the parameters \"at\" and \"opens\" come together")
+	} else if at == "" {
+		return nil, nil
+	}
+	made, err := q.number("at", math.MaxUint64)
+	if err != nil {
+		return nil, err
+	}
+	opened, err := q.number("opens", math.MaxUint64)
+	return &state.Position{Made: made, Opens: opened}, err
 }
 
 // A memberBody is the body that adds a member.
@@ -227,9 +250,9 @@ func memberOf(text []byte, id uint64) (engine.Member, error) {
 	if err := decode(text, &body); err != nil {
 		return engine.Member{}, err
 	}
-	for field, address := range map[string]string{"peer": body.Peer, "client": body.Client} {
-		if err := CheckAddress(address); err != nil {
-			return engine.Member{}, bad("the field %q %v", field, err)
+	for _, it := range []struct{ field, address string }{{"peer", body.Peer}, {"client", body.Client}} {
+		if err := CheckAddress(it.address); err != nil {
+			return engine.Member{}, bad("the field %q %v", it.field, err)
 		}
 	}
 	return engine.Member{ID: id, Peer: body.Peer, Client: body.Client, Learner: body.Learner}, nil

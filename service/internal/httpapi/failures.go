@@ -18,6 +18,7 @@ type failure struct {
 	Code   string  `json:"code"` // tells failures of one status apart; where it is "", failureOf gives it that of its status
 	Words  string  `json:"error"`
 	Maybe  bool    `json:"maybe,omitempty"`  // it may have been made
+	Since  *uint64 `json:"since,omitempty"`  // to be sent with the same key, if it is asked for again
 	Before *uint64 `json:"before,omitempty"` // of a log: the first place that this member has
 	Leader string  `json:"leader,omitempty"` // HOST:PORT of the leader for clients, where it alone is asked for this
 	// Of a member that is not ready: why, in words, by what is the matter.
@@ -83,6 +84,7 @@ func failureWithoutCode(err error) *failure {
 	var forgotten *state.Forgotten
 	var refused engine.Refused
 	var notLeader *engine.NotLeader
+	var unknown *replica.Unknown
 	switch {
 	case errors.As(err, &fail):
 		return fail
@@ -92,6 +94,8 @@ func failureWithoutCode(err error) *failure {
 		return &failure{Status: http.StatusConflict, Words: err.Error()}
 	case errors.As(err, &notLeader):
 		return &failure{Status: http.StatusServiceUnavailable, Code: "not_leader", Words: err.Error(), Leader: notLeader.Leader.Client}
+	case errors.As(err, &unknown) && unknown.HasKey:
+		return &failure{Status: http.StatusGatewayTimeout, Words: err.Error(), Maybe: true, Since: &unknown.Since}
 	case errors.Is(err, engine.ErrOutcomeUnknown):
 		return &failure{Status: http.StatusGatewayTimeout, Words: err.Error(), Maybe: true}
 	}
@@ -115,6 +119,8 @@ var failuresOf = []struct {
 	{book.ErrUndetermined, http.StatusConflict, "undetermined"},
 	{replica.ErrFull, http.StatusTooManyRequests, "too_many_requests"},
 	{disk.ErrFull, http.StatusInsufficientStorage, "disk_full"},
+	{replica.ErrLate, http.StatusServiceUnavailable, "busy"},
+	{state.ErrDiffers, http.StatusServiceUnavailable, "differs"},
 	{engine.ErrNoLeader, http.StatusServiceUnavailable, "no_leader"},
 	{engine.ErrNotMoved, http.StatusServiceUnavailable, "busy"},
 	{engine.ErrBusy, http.StatusServiceUnavailable, "busy"},

@@ -226,13 +226,16 @@ func (l *looks) mayLose(q *request) error { return l.forecast(q, book.Lose) }
 
 func (l *looks) forecast(q *request, outage book.Outage) error {
 	var selected book.Selection
-	for name, most := range map[string]uint64{"node": math.MaxUint16, "fault": math.MaxUint8, "upgrade": math.MaxUint8} {
-		for _, text := range q.query[name] {
-			number, err := book.ParseNumber(text, most)
+	for _, it := range []struct {
+		name string
+		most uint64
+	}{{"node", math.MaxUint16}, {"fault", math.MaxUint8}, {"upgrade", math.MaxUint8}} {
+		for _, text := range q.query[it.name] {
+			number, err := book.ParseNumber(text, it.most)
 			if err != nil {
-				return bad("the parameter %q %v", name, err)
+				return bad("the parameter %q %v", it.name, err)
 			}
-			switch name {
+			switch it.name {
 			case "node":
 				selected.Nodes = append(selected.Nodes, uint16(number))
 			case "fault":

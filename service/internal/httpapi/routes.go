@@ -28,7 +28,7 @@ const (
 
 // table is what the service answers, but for the mounts of other packages.
 func (a *API) table() []Route {
-	calls := &calls{a.cfg.Replica}
+	calls := newCalls(a.cfg.Replica)
 	looks := &looks{a.cfg.State, a.cfg.Replica}
 	group := &group{a.cfg.Engine, a.cfg.State, a.cfg.Replica, a.refused, a.cfg.Checks, a.cfg.Build}
 	rules := &rules{calls, a.cfg.State, a.cfg.Engine}
@@ -45,14 +45,14 @@ func (a *API) table() []Route {
 		{"POST", "/leader/{id}", Operate, 0, "", Timed, group.lead},
 		{"POST", "/snapshot", Operate, 0, "", Timed, group.snapshot},
 		{"GET", "/rules", Look, 0, "", Timed, rules.show},
-		{"PUT", "/rules", Operate, mostMember, "", Timed, rules.change},
+		{"PUT", "/rules", Operate, mostMember, "key since", Timed, rules.change},
 		{"GET", "/matrix", Look, 0, "code", Timed, matrix},
 		{"GET", "/books", Look, 0, "now", Timed, looks.books},
-		{"PUT", "/books/{book}", Operate, mostImage, "", Timed, calls.create},
-		{"DELETE", "/books/{book}", Operate, mostCall, "", Timed, calls.remove},
+		{"PUT", "/books/{book}", Operate, mostImage, "key since", Timed, calls.create},
+		{"DELETE", "/books/{book}", Operate, mostCall, "key since", Timed, calls.remove},
 		{"GET", "/books/{book}", Look, 0, "now", Timed, looks.bookStatus},
 		{"GET", "/books/{book}/nodes", Look, 0, "now", Timed, looks.nodes},
-		{"PUT", "/books/{book}/nodes", Operate, mostNodes, "", Timed, calls.reopen},
+		{"PUT", "/books/{book}/nodes", Operate, mostNodes, "key since at opens", Timed, calls.reopen},
 		{"GET", "/books/{book}/image", Look, 0, "now", Timed, looks.image},
 		{"POST", "/books/{book}/call", Work | Place | Operate, mostCall, "", TimedByBook, calls.call},
 		{"GET", "/books/{book}/peek", Look, 0, "now command session", Timed, looks.peek},

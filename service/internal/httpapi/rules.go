@@ -7,10 +7,35 @@ import (
 	"lrcman/service/internal/state"
 )
 
-// A rulesBody is the body that makes the group go to other rules, or to another form of entries.
+// A rulesBody is the body that makes the group go to other rules, or to another form of entries. What it lacks stays as it is.
 type rulesBody struct {
 	Rules *uint32 `json:"rules"`
-	Form  uint32  `json:"form"`
+	Form  *uint32 `json:"form"`
+}
+
+// rulesOf is the item that such a body asks for.
+func rulesOf(text []byte) (*state.Item, error) {
+	var body rulesBody
+	if err := decode(text, &body); err != nil {
+		return nil, err
+	}
+	item := &state.Item{Action: state.ChangeRules}
+	for _, it := range []struct {
+		field string
+		from  *uint32
+		to    *uint32
+	}{{"rules", body.Rules, &item.Rules}, {"form", body.Form, &item.Form}} {
+		if it.from == nil {
+			continue
+		} else if *it.from == 0 {
+			return nil, bad("the field %q has to be the version to which the group is to go, 1 or more", it.field)
+		}
+		*it.to = *it.from
+	}
+	if item.Rules == 0 && item.Form == 0 {
+		return nil, bad("the field \"rules\" or \"form\" has to be the version to which the group is to go, 1 or more")
+	}
+	return item, nil
 }
 
 // rules are the requests about the rules of the group.
@@ -42,14 +67,15 @@ func (u *rules) change(q *request) error {
 	if err != nil {
 		return err
 	}
-	var body rulesBody
-	if err := decode(text, &body); err != nil {
+	item, err := rulesOf(text)
+	if err != nil {
 		return err
 	}
-	if body.Rules == nil || *body.Rules == 0 {
-		return bad("the field \"rules\" has to be the version of the rules to which the group is to go, 1 or more")
+	asked, err := changeOf(q, item)
+	if err != nil {
+		return err
 	}
-	if _, err := u.calls.answerOf(q, &state.Item{Action: state.ChangeRules, Rules: *body.Rules, Form: body.Form}); err != nil {
+	if _, err := u.calls.answerOf(q, asked); err != nil {
 		return err
 	}
 	u.calls.replica.SaveChange(q.ctx)

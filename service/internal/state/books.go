@@ -66,13 +66,7 @@ func (e *bookEntry) moved(item *Item) Answer {
 
 // open makes a book of texts. A text that is refused is so on all members; an error is anything else.
 func open(nodes, image []byte) (*book.Book, Answer, error) {
-	var b *book.Book
-	var err error
-	if len(image) == 0 {
-		b, err = book.Open(nodes)
-	} else {
-		b, err = book.OpenImage(nodes, image)
-	}
+	b, err := book.Begin(nodes, image)
 	if book.IsOfText(err) {
 		return nil, reject(BadText, err.Error()), nil
 	}
