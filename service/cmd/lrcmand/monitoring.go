@@ -2,7 +2,6 @@ package main
 
 import (
 	"context"
-	"path/filepath"
 	"time"
 
 	"lrcman/service/internal/book"
@@ -21,15 +20,15 @@ type monitoring struct {
 	stop    context.CancelFunc
 }
 
-func newMonitoring(e engine.Engine, books *state.State, data string) *monitoring {
+func newMonitoring(e engine.Engine, books *state.State, from metrics.Sources) *monitoring {
 	ctx, stop := context.WithCancel(context.Background())
 	watcher := survey.NewWatcher(survey.OfState(books), time.Now)
 	go watcher.Watch(ctx)
+	from.Watcher, from.Status, from.Refusal, from.Differs = watcher, e.Status, book.RefusalName, books.Differs
 	return &monitoring{
-		metrics: metrics.New(metrics.Sources{Watcher: watcher, Status: e.Status, Folder: filepath.Join(data, "snap"), Version: "1",
-			Refusal: book.RefusalName}),
-		page: page.New(page.Sources{Watcher: watcher, Status: e.Status, Done: ctx.Done()}),
-		stop: stop,
+		metrics: metrics.New(from),
+		page:    page.New(page.Sources{Watcher: watcher, Status: e.Status, Done: ctx.Done()}),
+		stop:    stop,
 	}
 }
 

@@ -16,6 +16,7 @@ import (
 
 	"lrcman/service/internal/book"
 	"lrcman/service/internal/httpapi"
+	"lrcman/service/internal/metrics"
 	"lrcman/service/internal/replica"
 	"lrcman/service/internal/state"
 	"lrcman/service/internal/testengine"
@@ -44,7 +45,7 @@ func newAPI(t *testing.T) (*httpapi.API, *monitoring) {
 	ctx, stop := context.WithCancel(context.Background())
 	r := replica.New(replica.Config{Engine: e, State: books, Timeout: time.Second, Log: log.New(io.Discard, "", 0)})
 	go r.Run(ctx)
-	monitoring := newMonitoring(e, books, t.TempDir())
+	monitoring := newMonitoring(e, books, metrics.Sources{})
 	t.Cleanup(func() { stop(); monitoring.stop() })
 	return httpapi.New(httpapi.Config{Engine: e, State: books, Replica: r, Rights: granted, Timeout: time.Second,
 		Mounts: monitoring.mounts(), Observe: monitoring.metrics.Observe}), monitoring

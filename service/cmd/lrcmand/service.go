@@ -7,6 +7,8 @@ import (
 	"net/http"
 	"os"
 	"os/signal"
+	"path/filepath"
+	"strings"
 	"syscall"
 	"time"
 
@@ -16,6 +18,7 @@ import (
 	"lrcman/service/internal/engine/raftlog"
 	"lrcman/service/internal/httpapi"
 	"lrcman/service/internal/logging"
+	"lrcman/service/internal/metrics"
 	"lrcman/service/internal/replica"
 	"lrcman/service/internal/state"
 )
@@ -91,12 +94,12 @@ func newService(o *options, logger *logging.Logger, node engine.Engine, books *s
 	s.disk = disk.New(disk.Config{Folder: o.data, Reserve: o.diskReserve, Changed: s.diskChanged})
 	r := replica.New(replica.Config{Engine: node, State: books, Timeout: o.timeout, Election: o.election, Tick: o.tickTime(),
 		Log: logger.Std(logging.Info), MayChange: s.disk.MayChange, Knobs: knobs})
-	s.monitoring = newMonitoring(node, books, o.data)
+	s.monitoring = newMonitoring(node, books, s.sources(r))
 	s.monitoring.metrics.ConnectionsOf(ports.connections.Counts)
 	s.api = httpapi.New(httpapi.Config{Engine: node, State: books, Replica: r, Rights: o.rights, Hosts: o.allHosts(node), Rates: o.rates(),
 		Timeout: o.timeout, Mounts: s.monitoring.mounts(), Observe: s.monitoring.metrics.Observe, Audit: ports.auditTo(logger),
-		Checks: s.checks(), Build: httpapi.Build{Version: version, Commit: commit}, Connections: ports.connections, Watchers: ports.watchers,
-		Log: logger.Std(logging.Error)})
+		Checks: s.checks(books), Build: httpapi.Build{Version: version, Commit: commit}, Connections: ports.connections,
+		Watchers: ports.watchers, Log: logger.Std(logging.Error)})
 	s.gate, s.server, s.watch = &gate{}, s.api.Server(), s.api.WatchServer()
 	s.server.Handler, s.watch.Handler = s.gate.before(s.server.Handler), s.gate.before(s.watch.Handler)
 	ctx, stop := context.WithCancel(context.Background())
@@ -107,11 +110,26 @@ func newService(o *options, logger *logging.Logger, node engine.Engine, books *s
 	return s
 }
 
+// sources are what the metrics of this member are made of, beside its group and its books.
+func (s *service) sources(r *replica.Replica) metrics.Sources {
+	o := s.options
+	return metrics.Sources{Folder: filepath.Join(o.data, "snap"), Version: version, Commit: commit, Waiting: r.Waiting,
+		Disk: func() metrics.Disk {
+			return metrics.Disk{Free: s.disk.Free(), Reserve: s.disk.Reserve(), ReadOnly: s.disk.IsLow()}
+		},
+		Certificates: map[string]string{"cert": o.cert, "client-ca": o.clientCA, "peer-cert": o.peerCert, "peer-ca": o.peerCA}}
+}
+
 // checks are those of whether this member is ready.
-func (s *service) checks() []httpapi.Check {
+func (s *service) checks(books *state.State) []httpapi.Check {
 	return []httpapi.Check{{Name: "disk", Why: func() string {
 		if s.disk.IsLow() {
 			return disk.ErrFull.Error()
+		}
+		return ""
+	}}, {Name: "differs", Why: func() string {
+		if names := books.Differs(); len(names) > 0 {
+			return "these books are not what most other members have: " + strings.Join(names, ", ")
 		}
 		return ""
 	}}}

@@ -2,6 +2,7 @@ package httpapi
 
 import (
 	"errors"
+	"fmt"
 	"strings"
 	"testing"
 	"time"
@@ -72,8 +73,12 @@ func TestAFullDiskIsToldByName(t *testing.T) {
 			t.Errorf("%v: %d %s", it[:2], answer.StatusCode, text)
 		}
 	}
-	if answer, text := s.ask("GET", "/books/p0?now=1", ""); answer.StatusCode != 200 || !strings.Contains(text, `"n":1,"opens":1024`) {
+	answer, text := s.ask("GET", "/books/p0?now=1", "")
+	if answer.StatusCode != 200 || !strings.Contains(text, `"n":1,`) {
 		t.Error(text)
 	}
-	s.expect("DELETE", "/books/p0", `{"at":1,"opens":1024}`, 200, `{"n":1,"opens":1024}`)
+	place := fmt.Sprintf(`{"at":1,"opens":%s}`, answer.Header.Get("Lrcmand-Opens"))
+	if answer, text := s.ask("DELETE", "/books/p0", place); answer.StatusCode != 200 {
+		t.Error(place, text)
+	}
 }

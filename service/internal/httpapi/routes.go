@@ -118,7 +118,7 @@ type target struct {
 }
 
 // onWatch are the paths of the port for health and metrics.
-var onWatch = map[string]bool{"/health": true, "/metrics": true}
+var onWatch = map[string]bool{"/health": true, "/livez": true, "/readyz": true, "/metrics": true}
 
 // find is what a request is for. One of another method than its path takes is counted as one of that path. HEAD is GET without a body.
 func (a *API) find(r *http.Request, isWatch bool) target {

@@ -56,7 +56,9 @@ func alerts(t *testing.T) []rule {
 // labelsByMetric are the labels of each metric that a member tells.
 func labelsByMetric(t *testing.T) map[string]map[string]bool {
 	all, folder := recorded.Books{}, t.TempDir()
-	m, watcher := metricsOf(all, folder)
+	m := wholeMember(t, all, folder)
+	m.ConnectionsOf(func() (none httpapi.ConnectionCounts) { return none })
+	watcher := m.from.Watcher
 	watcher.Step()
 	for name, b := range books(t) {
 		all[name] = b
@@ -99,17 +101,37 @@ func TestAlertsAreRules(t *testing.T) {
 		if severity := rule.Labels["severity"]; severity != "critical" && severity != "warning" {
 			t.Errorf("%s: severity %q", rule.Alert, severity)
 		}
+		checkRunbook(t, rule)
 		description := rule.Annotations["description"]
 		if strings.Count(description, ". ") != 0 || !strings.HasSuffix(description, ".") || rule.Annotations["summary"] == "" {
 			t.Errorf("%s: the description is not one sentence: %q", rule.Alert, description)
 		}
 	}
-	for _, wanted := range []string{"StripeLost", "StripeUnavailable", "StripeAtMarginZero", "WorkDoesNotShrink", "NoLeader", "MemberBehind",
+	for _, wanted := range []string{"DiskReadOnly", "DiskLow", "CertificateExpires", "LeaderChanges", "RequestsRefused", "OutcomesUnknown",
+		"BooksDiffer", "SnapshotBroken", "ConnectionsFull", "StripeLost", "StripeUnavailable", "StripeAtMarginZero", "WorkDoesNotShrink", "NoLeader", "MemberBehind",
 		"RequestsWithoutRight", "LeasesExpire"} {
 		if !names["Lrcmand"+wanted] {
 			t.Errorf("there is no alert %s", wanted)
 		}
 	}
+}
+
+// checkRunbook finds the section of a page of this tree that a rule names.
+func checkRunbook(t *testing.T, rule rule) {
+	t.Helper()
+	file, section, hasSection := strings.Cut(rule.Annotations["runbook_url"], "#")
+	text, err := os.ReadFile("../../../" + file)
+	if err != nil || !hasSection {
+		t.Errorf("%s: runbook_url %q: %v", rule.Alert, rule.Annotations["runbook_url"], err)
+		return
+	}
+	for _, line := range strings.Split(string(text), "\n") {
+		title := strings.TrimLeft(line, "#")
+		if title != line && strings.ReplaceAll(strings.ToLower(strings.TrimSpace(title)), " ", "-") == section {
+			return
+		}
+	}
+	t.Errorf("%s: %s has no section %s", rule.Alert, file, section)
 }
 
 func TestTheCheckRefusesWhatIsNoExpression(t *testing.T) {
@@ -220,7 +242,8 @@ func (p *parser) names() {
 }
 
 var aggregations = map[string]bool{"sum": true, "max": true, "min": true, "group": true, "count": true}
-var functions = map[string]bool{"rate": true, "increase": true, "min_over_time": true, "max_over_time": true, "absent": true}
+var functions = map[string]bool{"rate": true, "increase": true, "min_over_time": true, "max_over_time": true, "absent": true, "changes": true,
+	"time": true}
 
 func (p *parser) value() {
 	word := p.take()
@@ -237,7 +260,9 @@ func (p *parser) value() {
 		p.want(")")
 	case functions[word]:
 		p.want("(")
-		p.binary()
+		if word != "time" {
+			p.binary()
+		}
 		p.want(")")
 	case name.MatchString(word):
 		p.metric(word)

@@ -6,9 +6,11 @@
 package metrics
 
 import (
+	"fmt"
 	"net/http"
-	"os"
+	"sort"
 	"strconv"
+	"strings"
 	"sync"
 	"time"
 
@@ -26,14 +28,22 @@ import (
 type Sources struct {
 	Watcher *survey.Watcher
 	Status  func() engine.Status
-	Folder  string // of the snapshots; "": nothing is told of their age
+	Folder  string // of the snapshots; "": nothing is told of them
 	Version string
+	Commit  string
 	Refusal func(uint8) string // the word for a refusal
+	// What is nil is not told.
+	Disk         func() Disk
+	Certificates map[string]string // the files of certificates, by the options that name them
+	Differs      func() []string   // the books in which this member is not what most others are
+	Waiting      func() int        // requests that wait for an entry
 }
 
 // Metrics are those of one member.
 type Metrics struct {
-	registry *prometheus.Registry
+	from     Sources
+	registry *prometheus.Registry // of all but the group and its books
+	scrapes  chan struct{}
 	requests *prometheus.CounterVec
 	duration *prometheus.HistogramVec
 	calls    *prometheus.HistogramVec
@@ -47,7 +57,8 @@ var seconds = []float64{.001, .002, .005, .01, .02, .05, .1, .2, .5, 1, 2, 5, 10
 // New makes metrics.
 func New(from Sources) *Metrics {
 	m := &Metrics{
-		names: from.Watcher.Names, called: map[string]bool{}, registry: prometheus.NewRegistry(),
+		from: from, names: from.Watcher.Names, called: map[string]bool{}, registry: prometheus.NewRegistry(),
+		scrapes: make(chan struct{}, mostScrapes),
 		requests: prometheus.NewCounterVec(prometheus.CounterOpts{Name: "lrcmand_http_requests_total",
 			Help: "Requests that were answered, by route and status."}, []string{"route", "status"}),
 		duration: prometheus.NewHistogramVec(prometheus.HistogramOpts{Name: "lrcmand_http_request_duration_seconds",
@@ -57,22 +68,46 @@ func New(from Sources) *Metrics {
 			[]string{"book"}),
 	}
 	build := prometheus.NewGauge(prometheus.GaugeOpts{Name: "lrcmand_build_info", Help: "Versions of program, interface and rules.",
-		ConstLabels: prometheus.Labels{"version": from.Version, "interface": number(book.Interface()), "rules": number(book.Rules())}})
+		ConstLabels: prometheus.Labels{"version": from.Version, "commit": from.Commit, "interface": number(book.Interface()),
+			"rules": number(book.Rules())}})
 	build.Set(1)
-	m.registry.MustRegister(m.requests, m.duration, m.calls, build, &collector{from}, collectors.NewGoCollector(),
+	m.registry.MustRegister(m.requests, m.duration, m.calls, build, collectors.NewGoCollector(),
 		collectors.NewProcessCollector(collectors.ProcessCollectorOpts{}))
 	return m
 }
 
 func number(n uint32) string { return strconv.FormatUint(uint64(n), 10) }
 
-// Handler answers with the metrics as they are.
+// mostScrapes is how many scrapes are answered at once.
+const mostScrapes = 4
+
+// Handler answers with the metrics as they are: those of all books, or of the ones that the parameter books names.
 func (m *Metrics) Handler() http.Handler {
-	tell := promhttp.HandlerFor(m.registry, promhttp.HandlerOpts{MaxRequestsInFlight: 4, EnableOpenMetrics: true})
 	return http.HandlerFunc(func(w http.ResponseWriter, r *http.Request) {
+		select {
+		case m.scrapes <- struct{}{}:
+			defer func() { <-m.scrapes }()
+		default:
+			w.Header().Set("Content-Type", "application/json")
+			w.Header().Set("Retry-After", "1")
+			w.WriteHeader(http.StatusServiceUnavailable)
+			fmt.Fprintf(w, `{"status":503,"code":"busy","error":"%d scrapes are under way already"}`+"\n", mostScrapes)
+			return
+		}
 		m.forgetRemoved()
-		tell.ServeHTTP(w, r)
+		var only []string
+		if names := r.URL.Query().Get("books"); names != "" {
+			only = strings.Split(names, ",")
+		}
+		promhttp.HandlerFor(m.of(only), promhttp.HandlerOpts{EnableOpenMetrics: true}).ServeHTTP(w, r)
 	})
+}
+
+// of has the metrics with these books, or with all where there is no name.
+func (m *Metrics) of(only []string) prometheus.Gatherer {
+	books := prometheus.NewRegistry()
+	books.MustRegister(&collector{m.from, only})
+	return prometheus.Gatherers{m.registry, books}
 }
 
 // forgetRemoved drops the histograms of books that were removed: else they would be told for ever.
@@ -100,7 +135,7 @@ func (m *Metrics) noteCall(name string, took time.Duration) {
 }
 
 // Registry has all metrics.
-func (m *Metrics) Registry() *prometheus.Registry { return m.registry }
+func (m *Metrics) Registry() prometheus.Gatherer { return m.of(nil) }
 
 // ConnectionsOf adds metrics of the connections at the port for clients. It is called before the metrics are told.
 func (m *Metrics) ConnectionsOf(counts func() httpapi.ConnectionCounts) {
@@ -108,7 +143,10 @@ func (m *Metrics) ConnectionsOf(counts func() httpapi.ConnectionCounts) {
 }
 
 // A collector makes the metrics of the group and of books when they are asked for.
-type collector struct{ Sources }
+type collector struct {
+	Sources
+	only []string // the books that are told; none: all are
+}
 
 func desc(name, help string, labels ...string) *prometheus.Desc {
 	return prometheus.NewDesc("lrcmand_"+name, help, labels, nil)
@@ -124,8 +162,16 @@ var (
 	appliedDesc  = desc("raft_applied_index", "Last entry of the log that this member has applied.")
 	snapDesc     = desc("raft_snapshot_index", "Last entry of the log in the newest snapshot.")
 	firstDesc    = desc("raft_first_index", "First entry of the log that this member still has.")
-	ageDesc      = desc("snapshot_age_seconds", "Time since the newest snapshot was written; absent before the first.")
+	writtenDesc  = desc("snapshot_timestamp_seconds", "When the newest snapshot was written; absent before the first.")
+	brokenDesc   = desc("snapshots_broken", "Snapshots that could not be read and were set aside, with names that end with .broken.")
 	booksDesc    = desc("books", "Books.")
+	differDesc   = desc("books_that_differ", "Books in which this member is not what most other members are.")
+	waitingDesc  = desc("requests_waiting", "Requests that wait to be taken into an entry.")
+	freeDesc     = desc("disk_free_bytes", "Room on the disk of this member; absent where its file system does not tell.")
+	reserveDesc  = desc("disk_reserve_bytes", "Room below which this member takes no changes.")
+	readOnlyDesc = desc("disk_read_only", "1 if this member takes no changes for lack of room.")
+	expiryDesc   = desc("certificate_expiry_timestamp_seconds", "When the first certificate of a file expires, by the option that names it.",
+		"file")
 )
 
 // The metrics of a book.
@@ -151,8 +197,8 @@ var (
 	costDesc      = desc("survey_duration_seconds", "How long the last survey of the book took.", "book")
 )
 
-var descs = []*prometheus.Desc{leaderDesc, isLeaderDesc, membersDesc, termDesc, commitDesc, appliedDesc, snapDesc, firstDesc, ageDesc,
-	booksDesc, entriesDesc, clockDesc, commandsDesc, refusalsDesc, expiredDesc, missedDesc, stripesDesc, missingDesc, homelessDesc,
+var descs = []*prometheus.Desc{leaderDesc, isLeaderDesc, membersDesc, termDesc, commitDesc, appliedDesc, snapDesc, firstDesc,
+	writtenDesc, brokenDesc, booksDesc, differDesc, waitingDesc, freeDesc, reserveDesc, readOnlyDesc, expiryDesc, entriesDesc, clockDesc, commandsDesc, refusalsDesc, expiredDesc, missedDesc, stripesDesc, missingDesc, homelessDesc,
 	workDesc, leasesDesc, oldestDesc, nodesDesc, downDesc, onlineDesc, seatsDesc, slotsDesc, upgradingDesc, costDesc}
 
 // Describe tells which metrics there are.
@@ -183,35 +229,93 @@ func (t teller) counter(desc *prometheus.Desc, value uint64, labels ...string) {
 // Collect makes the metrics.
 func (c *collector) Collect(to chan<- prometheus.Metric) {
 	c.group(teller{to, nil})
+	c.member(teller{to, nil})
+	reports := c.survey(to)
+	for _, report := range needy(reports, mostDomains) {
+		domains(teller{to, []string{report.Book}}, report.Nodes)
+	}
+}
+
+// What is done and told of books at once.
+const (
+	surveyors   = 4  // books that are surveyed
+	mostDomains = 16 // books whose domains are told: there may be hundreds of them in each
+)
+
+// survey tells of each book, and returns the reports of those that are there.
+func (c *collector) survey(to chan<- prometheus.Metric) (reports []*survey.Report) {
 	names := make(chan string)
 	var all sync.WaitGroup
+	var mu sync.Mutex
 	for i := 0; i < surveyors; i++ {
 		all.Add(1)
 		go func() {
 			defer all.Done()
 			for name := range names {
-				c.book(teller{to, []string{name}}, name)
+				if report := c.book(teller{to, []string{name}}, name); report != nil {
+					mu.Lock()
+					reports = append(reports, report)
+					mu.Unlock()
+				}
 			}
 		}()
 	}
-	for _, name := range c.Watcher.Names() {
+	for _, name := range c.toTell() {
 		names <- name
 	}
 	close(names)
 	all.Wait()
+	return reports
 }
 
-// surveyors is how many books are surveyed at once.
-const surveyors = 4
+// toTell are the books that are told of.
+func (c *collector) toTell() []string {
+	if len(c.only) == 0 {
+		return c.Watcher.Names()
+	}
+	asked, found := map[string]bool{}, []string{}
+	for _, name := range c.only {
+		asked[name] = true
+	}
+	for _, name := range c.Watcher.Names() {
+		if asked[name] {
+			found = append(found, name)
+		}
+	}
+	return found
+}
 
-func (c *collector) book(t teller, name string) {
+// needy are the books that need attention most: by what is lost, then by what is unavailable, and so on.
+func needy(reports []*survey.Report, most int) []*survey.Report {
+	sort.Slice(reports, func(i, j int) bool {
+		a, b := needs(reports[i]), needs(reports[j])
+		for k := range a {
+			if a[k] != b[k] {
+				return a[k] > b[k]
+			}
+		}
+		return reports[i].Book < reports[j].Book
+	})
+	if len(reports) > most {
+		reports = reports[:most]
+	}
+	return reports
+}
+
+func needs(r *survey.Report) [7]int {
+	s := r.Stripes
+	return [7]int{s.Lost, s.Unavailable, s.AtRisk[0], s.AtRisk[1], s.AtRisk[2], s.Missing, r.Work.All()}
+}
+
+func (c *collector) book(t teller, name string) *survey.Report {
 	report, err := c.Watcher.Report(name)
 	if err != nil {
-		return // (the other books are still told)
+		return nil // (the other books are still told)
 	}
 	counts(t, c.Watcher.Counts(name), c.Refusal)
 	stand(t, report)
 	t.gauge(costDesc, c.Watcher.Cost(name).Seconds())
+	return report
 }
 
 func (c *collector) group(t teller) {
@@ -225,24 +329,6 @@ func (c *collector) group(t teller) {
 	t.gauge(snapDesc, float64(status.Snapshot))
 	t.gauge(firstDesc, float64(status.First))
 	t.gauge(booksDesc, float64(len(c.Watcher.Names())))
-	if newest, ok := newestIn(c.Folder); ok {
-		t.gauge(ageDesc, time.Since(newest).Seconds())
-	}
-}
-
-// newestIn is when the newest file of a folder was written.
-func newestIn(folder string) (newest time.Time, ok bool) {
-	files, err := os.ReadDir(folder)
-	if folder == "" || err != nil {
-		return
-	}
-	for _, file := range files {
-		info, err := file.Info()
-		if err == nil && info.Mode().IsRegular() && info.ModTime().After(newest) {
-			newest, ok = info.ModTime(), true
-		}
-	}
-	return
 }
 
 func one(is bool) float64 {
@@ -299,14 +385,8 @@ func leases(t teller, leases []survey.Lease) {
 	t.gauge(oldestDesc, oldest)
 }
 
-type domain struct {
-	kind   string
-	number uint8
-}
-
 func nodes(t teller, nodes []survey.Node) {
 	modes := map[string]int{"active": 0, "draining": 0, "gone": 0}
-	seats, slots := map[domain]int{}, map[domain]int{}
 	down, online := 0, 0
 	for _, node := range nodes {
 		modes[node.Mode]++
@@ -316,16 +396,27 @@ func nodes(t teller, nodes []survey.Node) {
 		if node.Online {
 			online++
 		}
-		for _, in := range []domain{{"fault", node.Fault}, {"upgrade", node.Upgrade}} {
-			seats[in] += int(node.Load)
-			slots[in] += int(node.Slots)
-		}
 	}
 	for mode, count := range modes {
 		t.gauge(nodesDesc, float64(count), mode)
 	}
 	t.gauge(downDesc, float64(down))
 	t.gauge(onlineDesc, float64(online))
+}
+
+type domain struct {
+	kind   string
+	number uint8
+}
+
+func domains(t teller, nodes []survey.Node) {
+	seats, slots := map[domain]int{}, map[domain]int{}
+	for _, node := range nodes {
+		for _, in := range []domain{{"fault", node.Fault}, {"upgrade", node.Upgrade}} {
+			seats[in] += int(node.Load)
+			slots[in] += int(node.Slots)
+		}
+	}
 	for in, count := range slots {
 		t.gauge(seatsDesc, float64(seats[in]), in.kind, number(uint32(in.number)))
 		t.gauge(slotsDesc, float64(count), in.kind, number(uint32(in.number)))

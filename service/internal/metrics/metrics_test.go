@@ -2,6 +2,7 @@ package metrics
 
 import (
 	"fmt"
+	"math"
 	"net/http/httptest"
 	"os"
 	"path/filepath"
@@ -41,7 +42,7 @@ func status() engine.Status {
 
 func metricsOf(from survey.Books, folder string) (*Metrics, *survey.Watcher) {
 	watcher := survey.NewWatcher(from, time.Now)
-	return New(Sources{Watcher: watcher, Status: status, Folder: folder, Version: "0.1",
+	return New(Sources{Watcher: watcher, Status: status, Folder: folder, Version: "0.1", Commit: "abc",
 		Refusal: func(refusal uint8) string { return fmt.Sprintf("refusal %d", refusal) }}), watcher
 }
 
@@ -179,12 +180,12 @@ func TestTheGroupIsTold(t *testing.T) {
 			t.Errorf("%s is %v, and should be %v", sample, found, value)
 		}
 	}
-	if age := got["lrcmand_snapshot_age_seconds"]; age < 3600 || age > 3660 {
-		t.Errorf("the snapshot is %v seconds old, and was written an hour ago", age)
+	if written := got["lrcmand_snapshot_timestamp_seconds"]; math.Abs(written-float64(hour.UnixMilli())/1000) > 0.001 {
+		t.Errorf("the snapshot was written at %v, and not at %v", written, hour)
 	}
 	m, _ = metricsOf(books(t), t.TempDir())
-	if _, ok := values(t, m)["lrcmand_snapshot_age_seconds"]; ok {
-		t.Error("an age without a snapshot")
+	if _, ok := values(t, m)["lrcmand_snapshot_timestamp_seconds"]; ok {
+		t.Error("a time without a snapshot")
 	}
 }
 
@@ -208,7 +209,7 @@ func TestLabelsAreFew(t *testing.T) {
 	watcher.Step()
 	allowed := map[string]bool{"book": true, "level": true, "margin": true, "standing": true, "mode": true, "kind": true, "domain": true,
 		"age_ticks": true, "command": true, "reply": true, "refusal": true, "name": true, "route": true, "status": true, "version": true,
-		"interface": true, "rules": true}
+		"interface": true, "rules": true, "commit": true, "file": true, "state": true}
 	families, err := m.Registry().Gather()
 	if err != nil {
 		t.Fatal(err)

@@ -9,7 +9,7 @@ import (
 
 // Mount is where the metrics are.
 func (m *Metrics) Mount() httpapi.Mount {
-	return httpapi.Mount{Route: httpapi.Route{Method: "GET", Pattern: "/metrics", Role: httpapi.Look}, Answer: m.Handler().ServeHTTP}
+	return httpapi.Mount{Route: httpapi.Route{Method: "GET", Pattern: "/metrics", Role: httpapi.Look, Query: "books"}, Answer: m.Handler().ServeHTTP}
 }
 
 // Observe counts a request that was answered, and how long it took.

@@ -15,6 +15,7 @@ import (
 	"net/http"
 	"sort"
 	"strconv"
+	"strings"
 	"sync"
 	"time"
 
@@ -177,8 +178,22 @@ func (p *Page) text(name string, scope httpapi.Scope) ([]byte, error) {
 	k.text, k.made = text, time.Now()
 	p.mu.Lock()
 	p.cached[key] = k // (only of a book that there is)
+	p.forgetRemoved()
 	p.mu.Unlock()
 	return text, nil
+}
+
+// forgetRemoved drops the events of books that were removed: else they would be kept for ever.
+func (p *Page) forgetRemoved() {
+	there := map[string]bool{"": true}
+	for _, name := range p.Watcher.Names() {
+		there[name] = true
+	}
+	for key := range p.cached {
+		if name, _, _ := strings.Cut(key, " "); !there[name] {
+			delete(p.cached, key)
+		}
+	}
 }
 
 // Events sends the events of a book until the client goes.

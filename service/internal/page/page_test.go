@@ -12,6 +12,7 @@ import (
 	"time"
 
 	"lrcman/service/internal/engine"
+	"lrcman/service/internal/httpapi"
 	"lrcman/service/internal/survey"
 	"lrcman/service/internal/survey/recorded"
 )
@@ -290,5 +291,25 @@ func TestTheOldestLeaseStandsFirst(t *testing.T) {
 	sorted := oldest([]survey.Lease{{Stripe: 1, Ticks: 0, Since: now}, {Stripe: 2, Ticks: 1, Since: now}, {Stripe: 3, Ticks: 1, Since: now.Add(-time.Minute)}})
 	if sorted[0].Stripe != 3 || sorted[1].Stripe != 2 || sorted[2].Stripe != 1 {
 		t.Errorf("%v", sorted)
+	}
+}
+
+// What is kept of a book that was looked at goes with the book.
+func TestABookThatIsRemovedIsForgotten(t *testing.T) {
+	all, scope := load(t, "quiet", "rack"), httpapi.ScopeOf(httptest.NewRequest("GET", "/events", nil))
+	p := pageOf(all)
+	for _, name := range []string{"quiet", "rack"} {
+		if _, err := p.text(name, scope); err != nil {
+			t.Fatal(err)
+		}
+	}
+	delete(all, "rack")
+	p.Watcher.Step()
+	p.cached["quiet "+scope.String()].made = time.Time{}
+	if _, err := p.text("quiet", scope); err != nil {
+		t.Fatal(err)
+	}
+	if len(p.cached) != 1 {
+		t.Errorf("%d events are kept", len(p.cached))
 	}
 }

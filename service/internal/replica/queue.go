@@ -88,6 +88,13 @@ func (q *queue) wake() {
 	}
 }
 
+// count is the number of items that wait.
+func (q *queue) count() int {
+	q.mu.Lock()
+	defer q.mu.Unlock()
+	return len(q.waiting)
+}
+
 // add returns false if too many wait.
 func (q *queue) add(p *pending) bool {
 	q.mu.Lock()

@@ -37,3 +37,14 @@ func TestALeaderGivesItsLeadAway(t *testing.T) {
 	t.Logf("given away in %v", time.Since(begun))
 	propose(t, g.nodes[after], "entry behind it")
 }
+
+func TestALoopThatTurnsIsSeen(t *testing.T) {
+	t.Parallel()
+	cfg, _ := configOf(t, t.TempDir(), engine.Member{ID: 1}, engine.Member{ID: 1})
+	n, _ := begin(t, cfg)
+	begun := n.Status().Turned
+	if time.Since(begun) > long {
+		t.Error(begun)
+	}
+	eventually(t, "it turns", func() bool { return n.Status().Turned.After(begun) })
+}

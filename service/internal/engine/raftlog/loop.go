@@ -54,6 +54,7 @@ func (n *Node) loop() {
 }
 
 func (n *Node) tick() {
+	atomic.StoreInt64(&n.turned, time.Now().UnixNano())
 	n.raft.Tick()
 	if len(n.conf.Voters) == 1 && n.conf.Voters[0] == n.cfg.Self.ID && atomic.LoadUint64(&n.lead) == raft.None {
 		n.raft.Campaign(context.Background()) // alone: there is no one to wait for

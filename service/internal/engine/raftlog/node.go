@@ -75,6 +75,7 @@ type Node struct {
 	applier *applier
 	seldom  *log.Logger // to cfg.Log, for what others can cause as often as they like
 
+	turned                      int64  // atomic: when the loop turned last, in nanoseconds since 1970
 	lead, term, commit, applied uint64 // atomic
 	saved, received             uint64 // atomic: the index of the last snapshot, and of the last one of a leader since the start
 
@@ -140,6 +141,7 @@ func Start(cfg Config, machine engine.Machine) (*Node, error) {
 		return nil, err
 	}
 	go n.applier.run()
+	atomic.StoreInt64(&n.turned, time.Now().UnixNano())
 	go n.loop()
 	go n.readLoop()
 	go n.announce()
@@ -303,7 +305,7 @@ func (n *Node) Status() engine.Status {
 	}
 	return engine.Status{ID: n.cfg.Self.ID, Leader: atomic.LoadUint64(&n.lead), Term: atomic.LoadUint64(&n.term),
 		Commit: atomic.LoadUint64(&n.commit), Applied: atomic.LoadUint64(&n.applied), Snapshot: atomic.LoadUint64(&n.saved),
-		First: first, Members: n.sorted()}
+		First: first, Members: n.sorted(), Turned: time.Unix(0, atomic.LoadInt64(&n.turned))}
 }
 
 // Snapshot begins to write one now. The loop may wait for the disk meanwhile.
