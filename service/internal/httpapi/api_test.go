@@ -563,7 +563,7 @@ func TestTheGroupGoesToOtherRulesAndAnotherForm(t *testing.T) {
 	s := newService(t, nil)
 	now := fmt.Sprintf(`{"program":%[1]d,"group":%[1]d,"form":2,"saved":false}`, book.Rules())
 	s.expect("GET", "/rules", "", 200, now)
-	s.refused("PUT", "/rules", `{"form":3}`, 400, `the field "rules" has to be`)
+	s.refused("PUT", "/rules", `{}`, 400, `the field "rules" or "form" has to be`)
 	s.refused("PUT", "/rules", `{"rules":2,"form":300}`, 400, "there is no form 300")
 	s.expect("PUT", "/rules", `{"rules":2,"form":3}`, 200,
 		fmt.Sprintf(`{"program":%[1]d,"group":%[1]d,"form":2,"next":2,"next_form":3,"saved":false}`, book.Rules()))
