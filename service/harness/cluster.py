@@ -57,7 +57,7 @@ class Asker:
     def json(self, port, method, path, value=None):
         """The status and the object of an answer."""
         body = None if value is None else json.dumps(value)
-        status, _, text = self.ask(port, method, path, body, {"Content-Type": "application/json"} if body else {})
+        status, _, text = self.ask(port, method, path, body, {} if method == "GET" else {"Content-Type": "application/json"})
         return status, json.loads(text) if text and status else {}
 
 

@@ -76,7 +76,8 @@ def ask(group, method, path, body=None, limit=120):
     """Asks the leader until it answers with 200."""
     end = time.monotonic() + limit
     while time.monotonic() < end:
-        status, _, text = group.asker.ask(group.members[group.leader(limit)].client, method, path, body)
+        headers = {"Content-Type": "application/json"} if method == "POST" else None
+        status, _, text = group.asker.ask(group.members[group.leader(limit)].client, method, path, body, headers)
         if status == 200:
             return text
         time.sleep(0.05)

@@ -80,12 +80,15 @@ func (p *ports) tls() *tls.Config {
 	return p.keys.config()
 }
 
-// auditTo takes the lines of the audit.
-func (p *ports) auditTo(logger *logging.Logger) func(string) {
-	if p.audit != nil {
+// auditTo takes the lines of the audit. Where nobody has a name there is none, unless it is asked for.
+func (p *ports) auditTo(o *options) func(string) {
+	switch {
+	case p.audit != nil:
 		return p.audit.write
+	case o.rights == nil && o.clientCA == "":
+		return nil
 	}
-	return func(line string) { logger.Info("audit " + line) }
+	return func(line string) { p.log.Info("audit " + line) }
 }
 
 // rereadAtSignal reads tokens, certificates and authorities anew at each SIGHUP, until the context ends. What can't be used is told,

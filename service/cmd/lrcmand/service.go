@@ -97,7 +97,7 @@ func newService(o *options, logger *logging.Logger, node engine.Engine, books *s
 	s.monitoring = newMonitoring(node, books, s.sources(r))
 	s.monitoring.metrics.ConnectionsOf(ports.connections.Counts)
 	s.api = httpapi.New(httpapi.Config{Engine: node, State: books, Replica: r, Rights: o.rights, Hosts: o.allHosts(node), Rates: o.rates(),
-		Timeout: o.timeout, Mounts: s.monitoring.mounts(), Observe: s.monitoring.metrics.Observe, Audit: ports.auditTo(logger),
+		Timeout: o.timeout, Mounts: s.monitoring.mounts(), Observe: s.monitoring.metrics.Observe, Audit: ports.auditTo(o),
 		Checks: s.checks(books), Build: httpapi.Build{Version: version, Commit: commit}, Connections: ports.connections,
 		Watchers: ports.watchers, Log: logger.Std(logging.Error)})
 	s.gate, s.server, s.watch = &gate{}, s.api.Server(), s.api.WatchServer()

@@ -80,11 +80,16 @@ func newClient(o *options) (*client, error) {
 	return c, nil
 }
 
-// tokenOf is the first token of a file: a line TOKEN, or ROLE TOKEN as the service reads it.
+// tokenOf is the first token of a file: a line TOKEN, or ROLE TOKEN and more as the service reads it.
 func tokenOf(text string) string {
 	for _, line := range strings.Split(text, "\n") {
-		if words := strings.Fields(line); len(words) > 0 && words[0][0] != '#' {
-			return words[len(words)-1]
+		words := strings.Fields(line)
+		switch {
+		case len(words) == 0 || words[0][0] == '#':
+		case len(words) == 1:
+			return words[0]
+		case !strings.HasPrefix(words[1], "cert="):
+			return words[1]
 		}
 	}
 	return ""
@@ -142,7 +147,7 @@ func (c *client) send(ctx context.Context, server string, q query) (*http.Respon
 	if err != nil {
 		return nil, err
 	}
-	if q.body != nil {
+	if q.method != http.MethodGet {
 		r.Header.Set("Content-Type", "application/json")
 	}
 	if c.token != "" {

@@ -399,3 +399,12 @@ func TestTextFromOutsideLeavesTheTerminalAlone(t *testing.T) {
 		t.Errorf("%q", got)
 	}
 }
+
+func TestATokenIsReadFromTheFileOfTheService(t *testing.T) {
+	for text, want := range map[string]string{"": "", "abc\n": "abc", "# x\n\nlook abc\n": "abc", "look abc name=n books=p*\n": "abc",
+		"look cert=monitor\nwork,place def name=w\n": "def"} {
+		if token := tokenOf(text); token != want {
+			t.Errorf("%q: %q, and not %q", text, token, want)
+		}
+	}
+}

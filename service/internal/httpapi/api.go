@@ -128,13 +128,17 @@ func (a *API) answerIn(w http.ResponseWriter, r *http.Request, to target, isWatc
 	q := &request{w: w, r: r, ctx: ctx, api: a, names: to.names, isWatch: isWatch, caller: &caller{}, isRead: r.ContentLength == 0}
 	defer q.giveBack()
 	q.limitTimes()
+	if q.isRead {
+		q.enter(answering)
+	} else {
+		q.enter(waiting) // (for the body)
+	}
 	setSafeHeaders(w.Header())
 	if err := a.answer(q, to); err != nil {
 		fail := failureOf(err)
 		a.refused.add(fail.Status)
 		q.fail(fail)
 	}
-	q.leaveBody()
 	return q
 }
 

@@ -1,7 +1,7 @@
 package httpapi
 
 import (
-	"fmt"
+	"io"
 	"log"
 	"net/http"
 	"net/http/httptest"
@@ -137,10 +137,10 @@ func TestAFaultIsToldOnceAndAnswered(t *testing.T) {
 	if all := said.take(); len(all) != 1 || !strings.HasPrefix(all[0], "a fault at /panic: this can't be\n") || !strings.Contains(all[0], "audit_test.go") {
 		t.Errorf("%q", all)
 	}
-	if answer, err := http.Get(s.url + "/late"); err == nil {
-		if _, err := fmt.Fscanln(answer.Body); err == nil {
-			t.Error("what was broken off looks whole")
-		}
+	if answer, err := http.Get(s.url + "/late"); err != nil {
+		t.Error(err)
+	} else if text, err := io.ReadAll(answer.Body); err == nil {
+		t.Errorf("what was broken off looks whole: %q", text)
 	}
 	if all := said.take(); len(all) != 1 || !strings.HasPrefix(all[0], "a fault at /late: later on\n") {
 		t.Errorf("%q", all)

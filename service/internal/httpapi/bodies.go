@@ -87,15 +87,14 @@ func (q *request) bodyUpTo(most int64) ([]byte, error) {
 // read reads so many bytes. A connection may be closed for another one meanwhile.
 func (q *request) read(length int64) ([]byte, error) {
 	text := make([]byte, length)
-	q.enter(receiving)
 	_, err := io.ReadFull(q.r.Body, text)
-	q.enter(answering)
 	if errors.Is(err, os.ErrDeadlineExceeded) {
 		return nil, &failure{Status: http.StatusRequestTimeout, Words: "the body came too slowly"}
 	} else if err != nil {
 		return nil, bad("the body can't be read")
 	}
 	q.isRead = true
+	q.enter(answering)
 	if c := q.conn(); c != nil {
 		c.SetReadDeadline(time.Time{}) // (what is read from now on is whether the client is still there)
 	}
@@ -115,8 +114,8 @@ func (q *request) connections() *Connections {
 	return q.api.cfg.Connections
 }
 
-// leaveBody ends a connection whose request has a body that nobody read: it is answered, and what still comes is passed over until
-// the deadline of the body.
+// leaveBody ends a connection whose request has a body that nobody read. It is answered, and then what still comes is passed over until
+// the deadline of the body: a client that sends it all before it reads would else hear of a broken connection in place of its answer.
 func (q *request) leaveBody() {
 	if q.isRead {
 		return
@@ -124,5 +123,7 @@ func (q *request) leaveBody() {
 	if flusher, ok := q.w.(http.Flusher); ok {
 		flusher.Flush()
 	}
-	q.enter(receiving)
+	if q.r.Header.Get("Expect") == "" { // (who waits for a word before it sends has heard that there is none)
+		io.CopyN(io.Discard, q.r.Body, mostImage)
+	}
 }

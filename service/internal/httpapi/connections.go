@@ -1,6 +1,7 @@
 package httpapi
 
 import (
+	"container/list"
 	"crypto/tls"
 	"fmt"
 	"io"
@@ -10,14 +11,14 @@ import (
 	"time"
 )
 
-// A stage is what an open connection is at. One at a lower stage is closed first where a new one needs its place.
+// A stage is what an open connection is at.
 type stage int
 
 // The stages.
 const (
-	waiting   stage = iota // no request is under way, or its head has not come whole
-	receiving              // the body of a request comes, or what nobody reads of it
+	waiting   stage = iota // for its client: no request is under way, or its head or its body has not come whole, or nobody reads it
 	answering              // a request is answered: a connection at this stage is never closed for a new one
+	stages
 )
 
 // Connections are those that are open at one port. Each new one is accepted: where there are as many as there may be, the one that
@@ -25,8 +26,9 @@ const (
 type Connections struct {
 	most     int
 	mu       sync.Mutex
-	open     map[*conn]bool
-	from     map[string]int // how many there are of each address
+	at       [stages]*list.List // of *conn, those first that came to the stage first
+	from     map[string]int     // how many there are of each address
+	greedy   string             // the address that has more than half of what there may be, or ""
 	counts   ConnectionCounts
 	refusing chan struct{} // has a place for each connection that is being refused with words
 }
@@ -44,7 +46,11 @@ const mostToldRefusals = 64
 
 // NewConnections lets so many be open.
 func NewConnections(most int) *Connections {
-	return &Connections{most: most, open: map[*conn]bool{}, from: map[string]int{}, refusing: make(chan struct{}, mostToldRefusals)}
+	s := &Connections{most: most, from: map[string]int{}, refusing: make(chan struct{}, mostToldRefusals)}
+	for i := range s.at {
+		s.at[i] = list.New()
+	}
+	return s
 }
 
 // A conn is a connection that is counted while it is open.
@@ -53,7 +59,7 @@ type conn struct {
 	of      *Connections
 	address string
 	stage   stage
-	since   time.Time
+	place   *list.Element // among those at its stage; nil: it is not counted any more
 }
 
 // Close closes it, and counts it no more.
@@ -92,8 +98,8 @@ func (p *port) Accept() (net.Conn, error) {
 
 // admit lets a connection in, and closes another one for it if there are too many. It returns nil where none may be closed.
 func (s *Connections) admit(c net.Conn) *conn {
-	it := &conn{Conn: c, of: s, address: networkOf(c.RemoteAddr().String()), since: time.Now()}
-	closed, isIn := s.place(it)
+	it := &conn{Conn: c, of: s, address: networkOf(c.RemoteAddr().String())}
+	closed, isIn := s.add(it)
 	if closed != nil {
 		closed.Conn.Close()
 	}
@@ -103,11 +109,11 @@ func (s *Connections) admit(c net.Conn) *conn {
 	return it
 }
 
-// place counts a new connection, and returns the one that has to be closed for it.
-func (s *Connections) place(it *conn) (closed *conn, isIn bool) {
+// add counts a new connection, and returns the one that has to be closed for it.
+func (s *Connections) add(it *conn) (closed *conn, isIn bool) {
 	s.mu.Lock()
 	defer s.mu.Unlock()
-	if len(s.open) >= s.most {
+	if s.open() >= s.most {
 		if closed = s.longest(it.address); closed == nil {
 			s.counts.Refused++
 			return nil, false
@@ -115,43 +121,55 @@ func (s *Connections) place(it *conn) (closed *conn, isIn bool) {
 		s.drop(closed)
 		s.counts.Closed++
 	}
-	s.open[it] = true
-	s.from[it.address]++
+	it.place = s.at[waiting].PushBack(it)
+	if s.from[it.address]++; s.from[it.address] > s.most/2 {
+		s.greedy = it.address
+	}
 	return closed, true
 }
 
-// longest is the connection that is closed for one of an address: first of an address that has more than half of them, then one that
-// waits, and then the one that has been so for longest. An address with half of them closes its own alone.
-func (s *Connections) longest(address string) (found *conn) {
-	half := s.most / 2
-	for it := range s.open {
-		if it.stage == answering || s.from[address] >= half && it.address != address {
-			continue
-		}
-		if found == nil || s.goesBefore(it, found, half) {
-			found = it
-		}
+func (s *Connections) open() (count int) {
+	for _, list := range s.at {
+		count += list.Len()
 	}
-	return found
+	return count
 }
 
-func (s *Connections) goesBefore(a, b *conn, half int) bool {
-	if hasMost := s.from[a.address] > half; hasMost != (s.from[b.address] > half) {
-		return hasMost
+// longest is the connection that is closed for one of an address: the one that waits for longest, of the address that has more than
+// half of them if there is one. An address with half of them closes its own alone.
+func (s *Connections) longest(address string) *conn {
+	if s.from[address] >= s.most/2 {
+		return s.first(address)
 	}
-	if a.stage != b.stage {
-		return a.stage < b.stage
+	if s.greedy != "" {
+		if found := s.first(s.greedy); found != nil {
+			return found
+		}
 	}
-	return a.since.Before(b.since)
+	return s.first("")
+}
+
+// first is the one that has waited longest, of an address or of any.
+func (s *Connections) first(address string) *conn {
+	for place := s.at[waiting].Front(); place != nil; place = place.Next() {
+		if it := place.Value.(*conn); address == "" || it.address == address {
+			return it
+		}
+	}
+	return nil
 }
 
 func (s *Connections) drop(c *conn) {
-	if !s.open[c] {
+	if c.place == nil {
 		return
 	}
-	delete(s.open, c)
+	s.at[c.stage].Remove(c.place)
+	c.place = nil
 	if s.from[c.address]--; s.from[c.address] == 0 {
 		delete(s.from, c.address)
+	}
+	if c.address == s.greedy && s.from[c.address] <= s.most/2 {
+		s.greedy = ""
 	}
 }
 
@@ -182,7 +200,7 @@ var tooManyConnections = func() string {
 		"Connection: close\r\n\r\n%s", len(text), text)
 }()
 
-// enter notes that a connection has come to a stage.
+// enter notes that a connection has come to a stage. One that waits for something else from now on waits anew.
 func (s *Connections) enter(c net.Conn, now stage) {
 	if secret, ok := c.(*tls.Conn); ok {
 		c = secret.NetConn()
@@ -193,15 +211,15 @@ func (s *Connections) enter(c net.Conn, now stage) {
 	}
 	s.mu.Lock()
 	defer s.mu.Unlock()
-	it.stage, it.since = now, time.Now()
+	if it.place != nil {
+		s.at[it.stage].Remove(it.place)
+		it.stage, it.place = now, s.at[now].PushBack(it)
+	}
 }
 
-// Note notes what an HTTP server says of a connection. (It says active once the head of a request has come)
+// Note notes what an HTTP server says of a connection. (When a request is answered the API notes itself: not before its body has come)
 func (s *Connections) Note(c net.Conn, state http.ConnState) {
-	switch state {
-	case http.StateActive:
-		s.enter(c, answering)
-	case http.StateIdle:
+	if state == http.StateIdle {
 		s.enter(c, waiting)
 	}
 }
@@ -211,13 +229,8 @@ func (s *Connections) Counts() ConnectionCounts {
 	s.mu.Lock()
 	defer s.mu.Unlock()
 	counts := s.counts
-	for it := range s.open {
-		if it.stage == answering {
-			counts.Answering++
-		} else {
-			counts.Waiting++
-		}
-	}
+	counts.Answering = s.at[answering].Len()
+	counts.Waiting = s.open() - counts.Answering
 	return counts
 }
 

@@ -54,34 +54,28 @@ func isClosed(c net.Conn, within time.Duration) bool {
 	return !(isNet && netErr.Timeout())
 }
 
-// at counts the connections at a stage.
-func (s *Connections) at(wanted stage) (found int) {
-	s.mu.Lock()
-	defer s.mu.Unlock()
-	for it := range s.open {
-		if it.stage == wanted {
-			found++
-		}
-	}
-	return found
-}
-
 func TestWhatWaitsIsClosedForNewConnections(t *testing.T) {
 	const most, ask = 8, "GET /health HTTP/1.1\r\nHost: x\r\n\r\n"
 	for _, it := range []struct {
 		name, text string
-		stage      stage
+		isBody     bool
+		isAnswered bool
 	}{
-		{"idle", "", waiting},
-		{"half a head", "GET /health HTTP/1.1\r\nHost:", waiting},
-		{"half a body", "POST /books/p0/call HTTP/1.1\r\nHost: x\r\nContent-Type: application/json\r\nContent-Length: 100\r\n\r\n{", receiving},
-		{"a body that nobody reads", "GET /health HTTP/1.1\r\nHost: x\r\nContent-Length: 100\r\n\r\n", receiving},
+		{"idle", "", false, false},
+		{"half a head", "GET /health HTTP/1.1\r\nHost:", false, false},
+		{"half a body", "POST /books/p0/call HTTP/1.1\r\nHost: x\r\nContent-Type: application/json\r\nContent-Length: 100\r\n\r\n{", true, false},
+		{"a body that nobody reads", "GET /health HTTP/1.1\r\nHost: x\r\nContent-Length: 100\r\n\r\n", false, true},
 	} {
 		s := limited(t, most, func(with *setup) { with.Knobs.BodyTime = time.Hour })
 		var held []net.Conn
 		for i := 0; i < most; i++ {
 			held = append(held, s.dialWith(it.text))
-			wait(t, it.name+": it is let in", func() bool { return s.api.cfg.Connections.at(it.stage) == i+1 })
+			if it.isAnswered {
+				s.status(held[i], 200)
+			}
+			wait(t, it.name+": it is let in", func() bool {
+				return s.api.cfg.Connections.Counts().Waiting == i+1 && (!it.isBody || s.roomTaken() == int64(i+1)*100*costOfByte)
+			})
 		}
 		s.status(s.dialWith(ask), 200)
 		if !isClosed(held[0], 20*time.Second) {
@@ -97,20 +91,18 @@ func TestWhatWaitsIsClosedForNewConnections(t *testing.T) {
 	}
 }
 
-// What is between two requests is closed before what brings a body.
-func TestAnIdleConnectionIsClosedBeforeOneWithABody(t *testing.T) {
-	s := limited(t, 2, nil)
-	body := s.dialWith("POST /books/p0/call HTTP/1.1\r\nHost: x\r\nContent-Type: application/json\r\nContent-Length: 18\r\n\r\n{")
-	wait(t, "a body comes", func() bool { return s.api.cfg.Connections.at(receiving) == 1 })
-	kept := s.dialWith("GET /health HTTP/1.1\r\nHost: x\r\n\r\n")
-	s.status(kept, 200)
-	wait(t, "one is kept", func() bool { return s.api.cfg.Connections.at(waiting) == 1 })
-	s.status(s.dialWith("GET /health HTTP/1.1\r\nHost: x\r\n\r\n"), 200)
-	fmt.Fprint(body, `"command":"tick"}`)
-	s.status(body, 200)
-	if !isClosed(kept, 20*time.Second) {
-		t.Error("the idle one stays")
+// What came last waits for the shortest time, whatever the others wait for.
+func TestTheNewestIsNotClosedForTheNext(t *testing.T) {
+	s := limited(t, 3, nil)
+	for i := 0; i < 3; i++ {
+		s.dialWith("POST /books/p0/call HTTP/1.1\r\nHost: x\r\nContent-Type: application/json\r\nContent-Length: 18\r\n\r\n{")
+		wait(t, "a body comes", func() bool { return s.roomTaken() == int64(i+1)*18*costOfByte })
 	}
+	newest := s.dialWith("GET /health HTTP/1.1\r\nHost: x\r\n")
+	wait(t, "it is let in", func() bool { return s.api.cfg.Connections.Counts().Closed == 1 })
+	s.status(s.dialWith("GET /health HTTP/1.1\r\nHost: x\r\n\r\n"), 200)
+	fmt.Fprint(newest, "\r\n")
+	s.status(newest, 200)
 }
 
 func TestWhereAllAreAnsweredOneMoreIsTold(t *testing.T) {
@@ -154,7 +146,7 @@ func (a addressed) Close() error { return nil }
 func TestAnAddressHasHalfOfThemWhereOthersWait(t *testing.T) {
 	s := NewConnections(8)
 	admit := func(address string) *conn { return s.admit(addressed{nil, address}) }
-	isOpen := func(it *conn) bool { return s.open[it] }
+	isOpen := func(it *conn) bool { return it.place != nil }
 	first := admit("10.0.0.2:1")
 	var greedy []*conn
 	for i := 0; i < 7; i++ {
@@ -174,7 +166,7 @@ func TestAnAddressHasHalfOfThemWhereOthersWait(t *testing.T) {
 	if admit("10.0.0.1:9") != nil || !isOpen(first) {
 		t.Error("one with more than half, which are all answered, gets another's")
 	}
-	if admit("10.0.0.3:1") == nil || isOpen(first) {
+	if it := admit("10.0.0.3:1"); it == nil || isOpen(first) {
 		t.Error("one without any does not get the one that waits")
 	}
 	if networkOf("[2001:db8::1:2:3:4]:5") != networkOf("[2001:db8::9]:6") || networkOf("[2001:db8:0:1::1]:5") == networkOf("[2001:db8::9]:6") {

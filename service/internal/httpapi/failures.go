@@ -118,6 +118,7 @@ var failuresOf = []struct {
 	{book.ErrNotFound, http.StatusNotFound, "not_found"},
 	{book.ErrUndetermined, http.StatusConflict, "undetermined"},
 	{replica.ErrFull, http.StatusTooManyRequests, "too_many_requests"},
+	{replica.ErrLate, http.StatusServiceUnavailable, "busy"},
 	{disk.ErrFull, http.StatusInsufficientStorage, "disk_full"},
 	{replica.ErrLate, http.StatusServiceUnavailable, "busy"},
 	{state.ErrDiffers, http.StatusServiceUnavailable, "differs"},

@@ -62,6 +62,7 @@ func TestErrorsByNameHaveTheirStatus(t *testing.T) {
 		{engine.ErrEnded, 503, "ended"},
 		{engine.ErrOutcomeUnknown, 504, "outcome_unknown"},
 		{replica.ErrFull, 429, "too_many_requests"},
+		{replica.ErrLate, 503, "busy"},
 	} {
 		if fail := failureOf(it.err); fail.Status != it.status || fail.Code != it.code || fail.Maybe != (it.status == 504) {
 			t.Errorf("%v: %+v", it.err, fail)

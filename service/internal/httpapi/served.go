@@ -44,8 +44,15 @@ type streamer struct {
 	http.Flusher
 }
 
-// serve answers one request, and tells the observer and the audit of it.
+// serve answers one request.
 func (a *API) serve(w http.ResponseWriter, r *http.Request, isWatch bool) {
+	if q := a.answerAndTell(w, r, isWatch); q != nil {
+		q.leaveBody()
+	}
+}
+
+// answerAndTell answers a request, and tells the observer and the audit of it. It returns nil if the service has a fault.
+func (a *API) answerAndTell(w http.ResponseWriter, r *http.Request, isWatch bool) (q *request) {
 	answer, begin := &noted{ResponseWriter: w}, time.Now()
 	to := a.find(r, isWatch)
 	if r.URL.RawQuery != "" && r.URL.Query().Get("follow") == "1" {
@@ -65,8 +72,9 @@ func (a *API) serve(w http.ResponseWriter, r *http.Request, isWatch bool) {
 			panic(http.ErrAbortHandler) // (the connection is closed without a further line)
 		}
 	}()
-	q := a.answerIn(answerOf(w, answer), r, to, isWatch)
+	q = a.answerIn(answerOf(w, answer), r, to, isWatch)
 	a.audit.note(q, answer.status, w.Header().Get("Lrcmand-Index"))
+	return q
 }
 
 // answerOf is an answer that can be sent bit by bit, if that it is of can be.
