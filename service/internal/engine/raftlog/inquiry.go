@@ -17,7 +17,7 @@ import (
 )
 
 const (
-	askTime      = 2 * time.Second  // for an answer of another member
+	askTime      = time.Second      // for an answer of another member
 	doubtTime    = time.Second      // between two questions while the others may not take this member
 	calmTime     = 10 * time.Second // between two questions else
 	vouchingTime = time.Second      // between two questions about a stranger
@@ -59,7 +59,14 @@ func (n *Node) ask(address, path, query string, group uint64, into interface{}) 
 // watch ends this member once its group does not take it any more. That a single port says so is not enough: after a member any
 // web server may listen there.
 func (n *Node) watch() {
-	at, hasSaid := time.Duration(0), time.Time{}
+	at, hasSaid, begun := time.Duration(0), time.Time{}, atomic.LoadUint64(&n.commit)
+	for atomic.LoadUint64(&n.applied) < begun { // (else it does not know yet who the others are)
+		select {
+		case <-time.After(time.Millisecond):
+		case <-n.stop:
+			return
+		}
+	}
 	for {
 		isTold := false
 		select {
@@ -75,6 +82,7 @@ func (n *Node) watch() {
 			n.endRefused(found)
 			return
 		}
+		n.setDoubted(against[isLost]+against[isOld] > 0)
 		if isTold && time.Since(hasSaid) > calmTime {
 			hasSaid = time.Now()
 			n.cfg.Log.Printf("at the address of a member it is said that this one was removed; the group does not confirm it")
@@ -87,6 +95,22 @@ func (n *Node) watch() {
 			n.saveStarts()
 		}
 	}
+}
+
+func (n *Node) setDoubted(is bool) {
+	n.mu.Lock()
+	defer n.mu.Unlock()
+	if is && !n.isDoubted {
+		n.cfg.Log.Print("a member knows another folder, or a later start, under this number: this one takes no part until more answer")
+	}
+	n.isDoubted = is
+}
+
+// takesPart tells whether messages of this member count. At a start it asks first.
+func (n *Node) takesPart() bool {
+	n.mu.Lock()
+	defer n.mu.Unlock()
+	return !n.isDoubted
 }
 
 func (n *Node) hasUnsavedStarts() bool {
@@ -112,6 +136,8 @@ func (n *Node) inquire(others []engine.Member) (known int, against map[verdict]i
 			var it acquaintance
 			if err := n.ask(member.Peer, knownPath, query, n.identity.Group, &it); err != nil || it.Member != member.ID {
 				it.Verdict = isStrange
+			} else {
+				n.takeStarts(it.Starts)
 			}
 			answers <- it.Verdict
 		}(member)

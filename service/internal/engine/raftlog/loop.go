@@ -50,6 +50,9 @@ func (n *Node) loop() {
 		<-n.written
 	}
 	n.failAll()
+	if n.hasUnsavedStarts() {
+		n.saveStarts()
+	}
 	n.release()
 }
 

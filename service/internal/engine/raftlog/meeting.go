@@ -213,7 +213,7 @@ func (n *Node) checkIntroduction(member engine.Member, its *introduction) error 
 	if its.Begun && its.First == nil {
 		return fmt.Errorf("member %d has begun, and not with this one: %s", member.ID, lostWords)
 	} else if its.List != sumOfList(n.cfg.Name, n.cfg.Members) {
-		return fmt.Errorf("member %d at %s was started with another --members, or another --group, than this one", member.ID, member.Peer)
+		return fmt.Errorf("member %d at %s was started with another --members or --group than this one", member.ID, member.Peer)
 	}
 	return nil
 }

@@ -396,6 +396,10 @@ func (n *Node) announce() {
 }
 
 func (n *Node) send(messages []raftpb.Message) {
+	if !n.takesPart() {
+		n.drop(messages)
+		return
+	}
 	for i := range messages {
 		if messages[i].Type == raftpb.MsgSnap {
 			n.sendSnapshot(messages[i])
@@ -405,9 +409,18 @@ func (n *Node) send(messages []raftpb.Message) {
 	n.peers.Send(messages)
 }
 
+// drop tells raft that snapshots did not arrive: it waits for a word on each.
+func (n *Node) drop(messages []raftpb.Message) {
+	for i := range messages {
+		if messages[i].Type == raftpb.MsgSnap {
+			go n.raft.ReportSnapshot(messages[i].To, raft.SnapshotFailure)
+		}
+	}
+}
+
 // Process takes a message of another member. This and what follows is for rafthttp.
 func (n *Node) Process(ctx context.Context, message raftpb.Message) error {
-	if n.IsIDRemoved(message.From) || n.isAlone() || n.checkMessage(&message) != nil {
+	if n.IsIDRemoved(message.From) || n.isAlone() || !n.takesPart() || n.checkMessage(&message) != nil {
 		return nil
 	} else if !n.hasWhole(&message) {
 		return errRefused

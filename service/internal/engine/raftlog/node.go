@@ -91,10 +91,11 @@ type Node struct {
 
 	heard heard // when each member was last
 
-	starts           map[uint64]start // of the other members, by their numbers, as far as this one has heard of them
-	vouched          map[uint64]start // of those that others know, and this one does not
-	vouchedAt        time.Time        // when others were asked last about a stranger
+	starts           map[uint64]heardStart // of the other members, by their numbers, as far as this one has heard of them
+	vouched          map[uint64]start      // of those that others know, and this one does not
+	vouchedAt        time.Time             // when others were asked last about a stranger
 	areStartsUnsaved bool
+	isDoubted        bool // this member takes no part: another one knows another folder or start of it, or was not asked yet
 	savingStarts     sync.Mutex
 	identity         identity
 	number           uint64 // of this start
@@ -132,7 +133,7 @@ func Start(cfg Config, machine engine.Machine) (*Node, error) {
 	n := &Node{cfg: cfg, machine: machine, storage: raft.NewMemoryStorage(), applier: newApplier(),
 		seldom: ratelog.New(cfg.Log, 10, 10*time.Second), spoilt: make(chan raftpb.SnapshotMetadata), waiting: map[uint64]chan outcome{},
 		reads: map[uint64]chan uint64{}, members: map[uint64]engine.Member{},
-		removed: map[uint64]bool{}, heard: heard{at: map[uint64]time.Time{}}, starts: map[uint64]start{},
+		removed: map[uint64]bool{}, heard: heard{at: map[uint64]time.Time{}}, starts: map[uint64]heardStart{},
 		vouched: map[uint64]start{}, hearings: make(chan hearing), round: newRound(), readers: make(chan struct{}, 1),
 		snapshots: make(chan chan error),
 		written:   make(chan error, 1), leaving: make(chan uint64), stop: make(chan struct{}), done: make(chan struct{})}
@@ -164,7 +165,8 @@ func (n *Node) begin() (err error) {
 	if err != nil {
 		return err
 	}
-	n.startRaft(isOld) // before the peers, whose messages go to it
+	n.isDoubted = isOld // until the others were asked
+	n.startRaft(isOld)  // before the peers, whose messages go to it
 	if err := n.startPeers(); err != nil {
 		return err
 	}
@@ -189,8 +191,11 @@ func (n *Node) release() {
 	if n.markFile != nil {
 		n.markFile.Close()
 	}
+	n.savingStarts.Lock()
+	defer n.savingStarts.Unlock()
 	if n.lock != nil {
 		n.lock.Close()
+		n.lock = nil
 	}
 }
 

@@ -143,9 +143,10 @@ func answer(w http.ResponseWriter, value interface{}) {
 
 // An acquaintance is what a member of the group answers who asks about a start.
 type acquaintance struct {
-	Member  uint64  `json:"member"`
-	Name    string  `json:"name"` // of the group
-	Verdict verdict `json:"verdict"`
+	Member  uint64       `json:"member"`
+	Name    string       `json:"name"` // of the group
+	Verdict verdict      `json:"verdict"`
+	Starts  []heardStart `json:"starts"` // of all members that it has heard of
 }
 
 // known answers what this member knows of the start that stands in the address.
@@ -161,7 +162,7 @@ func (p *port) known(w http.ResponseWriter, r *http.Request) *refusal {
 	if err != nil {
 		return &refusal{http.StatusBadRequest, err.Error()}
 	}
-	answer(w, acquaintance{n.cfg.Self.ID, n.cfg.Name, n.judgeStart(asked)})
+	answer(w, acquaintance{n.cfg.Self.ID, n.cfg.Name, n.judgeStart(asked), n.heardStarts()})
 	return nil
 }
 
@@ -263,7 +264,7 @@ func (p *port) takeAddress(r *http.Request, number uint64) {
 // isAddressOf tells whether rafthttp, which panics at others, can speak to it.
 func (n *Node) isAddressOf(address string) bool {
 	urls, err := types.NewURLs([]string{address})
-	return err == nil && urls[0].Scheme == n.scheme() && urls[0].RawQuery == "" && urls[0].Fragment == "" && !strings.Contains(address, ",")
+	return err == nil && urls[0].Scheme == n.scheme() && urls[0].RawQuery+urls[0].Fragment == "" && !strings.Contains(address, ",")
 }
 
 // invite notes who speaks to a member that waits for its group.

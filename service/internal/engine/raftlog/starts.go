@@ -35,6 +35,12 @@ func (r reach) isBefore(other reach) bool {
 	return r.Term < other.Term || r.Term == other.Term && r.Last < other.Last
 }
 
+// A heardStart is the last start that a member has heard of another one.
+type heardStart struct {
+	start
+	Acknowledged reach `json:"acknowledged"` // by this start, or by those before
+}
+
 // A verdict is what a member knows of a start of another one.
 type verdict string
 
@@ -92,9 +98,9 @@ func (n *Node) judgeStart(s start) verdict {
 		return isStrange
 	case member.Folder != 0 && member.Folder != s.Folder:
 		return isLost
-	case s.isSame(heard):
+	case s.isSame(heard.start):
 		return isKnown
-	case s.Folder == heard.Folder && (s.Starts <= heard.Starts || s.reach.isBefore(heard.reach)):
+	case s.Folder == heard.Folder && (s.Starts <= heard.Starts || s.reach.isBefore(heard.Acknowledged)):
 		return isOld
 	}
 	return isKnown
@@ -131,7 +137,7 @@ func (n *Node) noteStart(s start) {
 	n.mu.Lock()
 	defer n.mu.Unlock()
 	if _, isThere := n.starts[s.Member]; !isThere {
-		n.starts[s.Member] = s
+		n.starts[s.Member] = heardStart{start: s}
 	}
 }
 
@@ -144,7 +150,7 @@ type hearing struct {
 func (n *Node) hasHeard(s start) bool {
 	n.mu.Lock()
 	defer n.mu.Unlock()
-	return s.isSame(n.starts[s.Member])
+	return s.isSame(n.starts[s.Member].start)
 }
 
 // takeHearing is of the loop. It judges again once the old connections are cut: until then an acknowledgement may have come.
@@ -157,7 +163,8 @@ func (n *Node) takeHearing(it hearing) {
 	found := n.judgeStart(it.start)
 	n.mu.Lock()
 	if found == isKnown {
-		n.starts[it.start.Member] = it.start
+		before := n.starts[it.start.Member]
+		n.starts[it.start.Member] = heardStart{start: it.start, Acknowledged: before.Acknowledged}
 	}
 	member, isMember := n.members[it.start.Member]
 	n.mu.Unlock()
@@ -175,8 +182,8 @@ func (n *Node) noteAcknowledged(m *raftpb.Message) {
 	n.mu.Lock()
 	defer n.mu.Unlock()
 	heard, isThere := n.starts[m.From]
-	if now := (reach{m.Term, m.Index}); isThere && heard.reach.isBefore(now) {
-		heard.reach = now
+	if now := (reach{m.Term, m.Index}); isThere && heard.Acknowledged.isBefore(now) {
+		heard.Acknowledged = now
 		n.starts[m.From] = heard
 		n.areStartsUnsaved = true
 	}
@@ -184,7 +191,7 @@ func (n *Node) noteAcknowledged(m *raftpb.Message) {
 
 // openStarts reads what was heard of the other members. Where it can't be read, nothing was heard.
 func (n *Node) openStarts() error {
-	var all []start
+	var all []heardStart
 	err := readChecked(filepath.Join(n.cfg.Dir, startsName), &all)
 	if errors.Is(err, errChanged) {
 		n.cfg.Log.Printf("the file %s can't be read: this member has to hear of the others anew", startsName)
@@ -197,19 +204,74 @@ func (n *Node) openStarts() error {
 	return nil
 }
 
-// saveStarts keeps it for the next start.
-func (n *Node) saveStarts() error {
-	n.savingStarts.Lock()
-	defer n.savingStarts.Unlock()
+func (n *Node) heardStarts() []heardStart {
 	n.mu.Lock()
-	all := make([]start, 0, len(n.starts))
+	defer n.mu.Unlock()
+	all := make([]heardStart, 0, len(n.starts))
 	for id, it := range n.starts {
 		if !n.removed[id] {
 			all = append(all, it)
 		}
 	}
+	return all
+}
+
+// takeStarts takes what another member has heard: acknowledgements come to the leader alone.
+func (n *Node) takeStarts(all []heardStart) {
+	n.mu.Lock()
+	defer n.mu.Unlock()
+	for _, it := range all {
+		member, isMember := n.members[it.Member]
+		known, isThere := n.starts[it.Member]
+		if !isMember || it.Member == n.cfg.Self.ID || member.Folder != 0 && member.Folder != it.Folder {
+			continue
+		}
+		now := known.beside(it, isThere)
+		if now == known {
+			continue
+		}
+		n.starts[it.Member] = now
+		n.areStartsUnsaved = true
+		if !now.isSame(known.start) {
+			go n.cut(now.start)
+		}
+	}
+}
+
+// cut lets the loop cut the connections of starts before this one.
+func (n *Node) cut(now start) {
+	select {
+	case n.hearings <- hearing{now, make(chan verdict, 1)}:
+	case <-n.done:
+	}
+}
+
+// beside is what is known of a member once another one has told what it heard.
+func (h heardStart) beside(it heardStart, isThere bool) heardStart {
+	switch {
+	case !isThere:
+		return it
+	case h.Folder != it.Folder, it.Starts > h.Starts: // (a later start will be heard of that one itself)
+		return h
+	case !h.isSame(it.start) && h.reach.isBefore(it.Acknowledged):
+		return it // (what was heard here was an older copy)
+	case h.Acknowledged.isBefore(it.Acknowledged):
+		h.Acknowledged = it.Acknowledged
+	}
+	return h
+}
+
+// saveStarts keeps it for the next start.
+func (n *Node) saveStarts() error {
+	n.savingStarts.Lock()
+	defer n.savingStarts.Unlock()
+	if n.lock == nil {
+		return engine.ErrEnded // (the folder may be that of another process)
+	}
+	n.mu.Lock()
 	n.areStartsUnsaved = false
 	n.mu.Unlock()
+	all := n.heardStarts()
 	err := writeChecked(filepath.Join(n.cfg.Dir, startsName), all, n.syncFolder)
 	if err != nil {
 		n.cfg.Log.Printf("the file %s can't be written: %v", startsName, err)
