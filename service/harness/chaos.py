@@ -7,7 +7,7 @@ from work import Run, Work, make_books
 
 
 class Chaos:
-    """What happens to the members. At most a minority of them is away at once."""
+    """What happens to the members. At most a minority of those that vote is away at once."""
 
     def __init__(self, group, seed):
         self.group, self.random, self.next_number = group, random.Random(seed), len(group.members) + 1
@@ -36,10 +36,10 @@ class Chaos:
     def act(self, now):
         group = self.group
         self.come_back(now)
-        if len(self.away) >= (len(group.members) - 1) // 2:
+        if len(self.away) >= (len(group.members) - len(group.learners) - 1) // 2:
             return
         number, dice = self.random.choice([it for it in group.members if it not in self.away]), self.dice()
-        if dice < 0.1:
+        if dice < 0.1:  # (a learner does not come to lead, and nobody minds)
             group.lead(number)
             self.count("made leader")
         elif dice < 0.45:
@@ -51,12 +51,20 @@ class Chaos:
             self.away[number] = now + self.random.uniform(0.3, 2)
             self.count("stopped")
         elif not self.away and len(group.members) < 5:
-            group.add(self.next_number)
-            self.next_number += 1
-            self.count("added")
+            self.add()
+        elif not self.away and number in group.learners and dice < 0.9:
+            group.promote(number)
+            self.count("promoted")
         elif not self.away:
             group.remove(number)
             self.count("removed")
+
+    def add(self):
+        """Adds a member. One of those that are there may only learn."""
+        learns = not self.group.learners and self.random.random() < 0.5
+        self.group.add(self.next_number, learns)
+        self.next_number += 1
+        self.count("added to learn" if learns else "added")
 
     def end(self):
         for number in list(self.away):

@@ -116,7 +116,7 @@ class Group:
         self.program, self.folder, self.env = program, folder, env or {}
         shutil.rmtree(folder, ignore_errors=True)
         os.makedirs(folder)
-        self.members, self.gone, self.words = {}, {}, list(words)
+        self.members, self.gone, self.learners, self.words = {}, {}, set(), list(words)
         for number in range(1, size + 1):
             self.members[number] = Member(self, number, self.words)
             self.members[number].is_first = True
@@ -160,28 +160,54 @@ class Group:
             time.sleep(0.02)
         raise RuntimeError(f"there is no leader in {self.folder}")
 
-    def change(self, method, path, value=None, limit=60):
-        """Asks one member after the other until the change is made."""
-        end = time.monotonic() + limit
+    def change(self, method, path, value=None, limit=60, statuses=(200, 409)):
+        """Asks one member after the other until one answers with one of these statuses."""
+        end, status, told = time.monotonic() + limit, 0, {}
         while time.monotonic() < end:
             for member in list(self.members.values()):
                 if member.runs() and not member.is_stopped:
                     status, told = self.asker.json(member.client, method, path, value)
-                    if status in (200, 409):
+                    if status in statuses:
                         return status, told
             time.sleep(0.1)
-        raise RuntimeError(f"{method} {path} is not made")
+        raise RuntimeError(f"{method} {path} is not made: {status} {told}")
 
     def lead(self, number):
         """Asks for another leader. Whether it comes to lead in time is nobody's fault."""
         self.asker.json(self.members[number].client, "POST", f"/leader/{number}")
 
-    def add(self, number):
+    def add(self, number, learns=False):
+        """Adds a member, starts it, and waits until it votes, unless it only learns."""
         member = Member(self, number, self.words)
-        self.change("PUT", f"/members/{number}", {"peer": f"127.0.0.1:{member.peer}", "client": f"127.0.0.1:{member.client}"})
+        self.put(member, learns)
         self.members[number] = member
         self.start(member)
+        if learns:
+            self.learners.add(number)
+        else:
+            self.wait_for_vote(number)
+
+    def put(self, member, learns=False):
+        """Asks for a member, or that one votes that learned, until it is made."""
+        body = {"peer": f"127.0.0.1:{member.peer}", "client": f"127.0.0.1:{member.client}", "learner": learns}
+        self.change("PUT", f"/members/{member.number}", body, statuses=(200,))
+
+    def promote(self, number):
+        """Lets one vote that learns, once it has what the leader has."""
+        self.put(self.members[number])
+        self.wait_for_vote(number)
+        self.learners.remove(number)
+
+    def wait_for_vote(self, number, limit=60):
+        end = time.monotonic() + limit
+        while time.monotonic() < end:
+            rows = self.status(self.members[self.leader()]).get("members", ())
+            if any(row["id"] == number and not row.get("learner") for row in rows):
+                return
+            time.sleep(0.02)
+        raise RuntimeError(f"member {number} does not come to vote")
 
     def remove(self, number):
-        self.change("DELETE", f"/members/{number}")
+        self.change("DELETE", f"/members/{number}", statuses=(200,))
         self.gone[number] = self.members.pop(number)
+        self.learners.discard(number)

@@ -10,6 +10,9 @@ func (a answer) Error() string { return string(a) }
 
 const help = `usage: lrcmand --data DIR [OPTIONS]         runs a member
        lrcmand check --data DIR [OPTIONS]   judges the options and their files, and starts nothing
+       lrcmand restore --data DIR --from FILE [--id N] [--listen HOST:PORT] [--peer HOST:PORT]
+                                            makes a new group of one of a backup
+       lrcmand recover --data DIR           makes a new group of one of a member whose majority is lost
        lrcmand ctl COMMAND                  asks a service and commands it; lrcmand ctl -h tells more
 
 Each option may stand in the environment too: --snapshot-every as LRCMAND_SNAPSHOT_EVERY. docs/SERVICE.md describes them.

@@ -26,6 +26,8 @@ func main() {
 		switch words[0] {
 		case "ctl":
 			os.Exit(ctl.Main(words[1:], os.Stdout, os.Stderr))
+		case "restore", "recover":
+			os.Exit(runRepair(words, os.Stdout, os.Stderr))
 		case "check":
 			isCheck, words = true, words[1:]
 		}

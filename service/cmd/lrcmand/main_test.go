@@ -61,6 +61,7 @@ func TestTheCommandLineIsReadOrRefused(t *testing.T) {
 		"--data d --members 1=h/h:2":                      "--members: an address has to be HOST:PORT",
 		"--data d --members 2=h:1/h:2":                    "--members lacks this one, 1",
 		"--data d --members 1=h:1/h:2,1=h:3/h:4":          "--members has 1 twice",
+		"--data d --members 1=h:1/h:2,2=h:1/h:4":          "--members has the address h:1 twice",
 		"--data d --cert c":                               "--cert and --key come together",
 		"--data d --client-ca c":                          "--client-ca with both",
 		"--data d --peer-cert c --peer-key k":             "--peer-cert, --peer-key and --peer-ca come together",

@@ -177,12 +177,18 @@ func (o *options) readMembers() error {
 }
 
 func unique(members []engine.Member) error {
-	seen := map[uint64]bool{}
+	seen, taken := map[uint64]bool{}, map[string]bool{}
 	for _, member := range members {
 		if seen[member.ID] {
 			return fmt.Errorf("--members has %d twice", member.ID)
 		}
 		seen[member.ID] = true
+		for _, address := range []string{member.Peer, member.Client} {
+			if taken[address] {
+				return fmt.Errorf("--members has the address %s twice", address)
+			}
+			taken[address] = true
+		}
 	}
 	return nil
 }

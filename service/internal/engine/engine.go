@@ -92,6 +92,13 @@ func (e *NotLeader) Error() string {
 	return fmt.Sprintf("member %d leads, and is to be asked for this: %s", e.Leader.ID, e.Leader.Client)
 }
 
+// A Backup is all that a member has applied, of one place of the log.
+type Backup struct {
+	Index uint64                // the last entry in it
+	Write func(io.Writer) error // once
+	Close func()                // gives back what it holds
+}
+
 // An Engine is a log, kept alike by the members of a group, that drives a machine.
 type Engine interface {
 	// Propose brings a payload into the log, and returns what Apply told on this member. The error is ErrNoLeader or ErrBusy if
@@ -116,6 +123,8 @@ type Engine interface {
 	LeadAway(ctx context.Context) error
 	// Snapshot begins to write one now.
 	Snapshot(ctx context.Context) error
+	// Backup takes what this member has applied. It fails if the context ends before there is a snapshot.
+	Backup(ctx context.Context) (*Backup, error)
 	// Done is closed when the engine has ended, by Close or by itself, and Err says why; nil after Close.
 	Done() <-chan struct{}
 	Err() error

@@ -5,6 +5,7 @@ import (
 	"bytes"
 	"context"
 	"encoding/json"
+	"errors"
 	"fmt"
 	"io"
 	"log"
@@ -598,6 +599,28 @@ func TestVersionAndMembers(t *testing.T) {
 	_, text = s.ask("GET", "/status", "")
 	if !strings.Contains(text, `"id":1,"leader":1,`) || !strings.Contains(text, `"refused":{"503":1}`) {
 		t.Error(text)
+	}
+}
+
+func TestABackupIsSentWholeOrBreaksOff(t *testing.T) {
+	s := newService(t, nil)
+	s.call("tick")
+	if answer := s.expect("GET", "/backup", "", 200, "books"); answer.Header.Get("Lrcmand-Index") != "2" {
+		t.Errorf("%v", answer.Header)
+	}
+	s.engine.Change(func(e *testengine.Local) { e.Silent = engine.ErrNoLeader })
+	s.refused("GET", "/backup", "", 503, "there is no leader")
+	answer, err := http.Get(s.url + "/backup?now=0") // (it can't be written whole)
+	if err == nil {
+		defer answer.Body.Close()
+		_, err = io.ReadAll(answer.Body)
+	}
+	if err == nil {
+		t.Error("a backup that is not whole looks as if it were")
+	}
+	var fail *failure
+	if err := (&group{backups: make(chan struct{})}).backup(nil); !errors.As(err, &fail) || fail.Status != http.StatusTooManyRequests {
+		t.Errorf("%v", err)
 	}
 }
 

@@ -1,8 +1,10 @@
 package httpapi
 
 import (
+	"fmt"
 	"net/http"
 	"runtime"
+	"strconv"
 
 	"lrcman/service/internal/book"
 	"lrcman/service/internal/engine"
@@ -18,7 +20,10 @@ type group struct {
 	refused *tally
 	checks  []Check
 	build   Build
+	backups chan struct{} // has room for those that may be sent at once
 }
+
+const mostBackups = 2
 
 func (g *group) version(q *request) error {
 	return q.say(http.StatusOK, struct {
@@ -119,4 +124,43 @@ func (g *group) snapshot(q *request) error {
 		return err
 	}
 	return g.status(q)
+}
+
+// backup sends all that this member has, of one place of the log: all that was told before the request is in it, unless it has
+// now=0. A member that has lost its majority still sends what it has then.
+func (g *group) backup(q *request) error {
+	select {
+	case g.backups <- struct{}{}:
+		defer func() { <-g.backups }()
+	default:
+		return &failure{Status: http.StatusTooManyRequests, Words: fmt.Sprintf("%d backups are sent already", mostBackups)}
+	}
+	if q.query.Get("now") != "0" {
+		if err := g.replica.Barrier(q.ctx); err != nil {
+			return err
+		}
+	}
+	backup, err := g.engine.Backup(q.ctx)
+	if err != nil {
+		return err
+	}
+	defer backup.Close()
+	q.w.Header().Set("Content-Type", "application/octet-stream")
+	q.w.Header().Set("Cache-Control", "no-store")
+	q.w.Header().Set("Lrcmand-Index", strconv.FormatUint(backup.Index, 10))
+	q.w.WriteHeader(http.StatusOK)
+	if err := backup.Write(patient{q}); err != nil {
+		if c := q.conn(); c != nil { // so that the client sees that it is not whole
+			c.Close()
+		}
+	}
+	return nil
+}
+
+// A patient writer gives the client time for each part that it takes.
+type patient struct{ q *request }
+
+func (p patient) Write(text []byte) (int, error) {
+	p.q.limitWrite()
+	return p.q.w.Write(text)
 }

@@ -64,6 +64,7 @@ func TestRolesAllowWhatThePageSays(t *testing.T) {
 		{"DELETE", "/books/p1", `{"at":0,"opens":27648}`, 403, 403, 403, 403, 200},
 		{"POST", "/leader/1", "", 403, 403, 403, 403, 200},
 		{"POST", "/snapshot", "", 403, 403, 403, 403, 503},
+		{"GET", "/backup", "", 403, 403, 403, 403, 200},
 	} {
 		s.refused(it.method, it.path, it.body, 401, "no token")
 		s.refused(it.method, it.path, it.body, 401, "the token is unknown", bearer("xxxxxxxxxxxxxxxx"))
@@ -154,6 +155,7 @@ func TestRightsAreOfBooks(t *testing.T) {
 	s.refused("PUT", "/books/p2", nodes(4), 403, "no rights to the book p2", operator)
 	s.refused("PUT", "/members/2", `{"peer":"h:1","client":"h:2"}`, 403, "this takes rights to all books", operator)
 	s.refused("POST", "/snapshot", "", 403, "this takes rights to all books", operator)
+	s.refused("GET", "/backup", "", 403, "this takes rights to all books", operator)
 }
 
 func TestAWorkerHasTheNameOfItsToken(t *testing.T) {

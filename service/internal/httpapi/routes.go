@@ -30,7 +30,7 @@ const (
 func (a *API) table() []Route {
 	calls := newCalls(a.cfg.Replica)
 	looks := &looks{a.cfg.State, a.cfg.Replica}
-	group := &group{a.cfg.Engine, a.cfg.State, a.cfg.Replica, a.refused, a.cfg.Checks, a.cfg.Build}
+	group := &group{a.cfg.Engine, a.cfg.State, a.cfg.Replica, a.refused, a.cfg.Checks, a.cfg.Build, make(chan struct{}, mostBackups)}
 	rules := &rules{calls, a.cfg.State, a.cfg.Engine}
 	logs := &logs{a.cfg.State, make(chan struct{}, mostStreams), a.stop}
 	return []Route{
@@ -44,6 +44,7 @@ func (a *API) table() []Route {
 		{"DELETE", "/members/{id}", Operate, 0, "force", Timed, group.removeMember},
 		{"POST", "/leader/{id}", Operate, 0, "", Timed, group.lead},
 		{"POST", "/snapshot", Operate, 0, "", Timed, group.snapshot},
+		{"GET", "/backup", Operate, 0, "now", NotTimed, group.backup},
 		{"GET", "/rules", Look, 0, "", Timed, rules.show},
 		{"PUT", "/rules", Operate, mostMember, "key since", Timed, rules.change},
 		{"GET", "/matrix", Look, 0, "code", Timed, matrix},

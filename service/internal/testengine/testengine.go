@@ -4,6 +4,7 @@ package testengine
 import (
 	"context"
 	"fmt"
+	"io"
 	"sync"
 	"time"
 
@@ -120,6 +121,19 @@ func (l *Local) Snapshot(context.Context) error {
 	defer l.mu.Unlock()
 	l.Saved++
 	return engine.ErrBusy
+}
+
+// Backup has one word, and can't be written whole where Silent is set.
+func (l *Local) Backup(context.Context) (*engine.Backup, error) {
+	l.mu.Lock()
+	defer l.mu.Unlock()
+	wrong := l.Silent
+	return &engine.Backup{Index: l.index, Close: func() {}, Write: func(w io.Writer) error {
+		if _, err := io.WriteString(w, "books"); err != nil {
+			return err
+		}
+		return wrong
+	}}, nil
 }
 
 // Done is never closed.

@@ -37,9 +37,9 @@ func (h *heard) isSince(id uint64, since time.Time) bool {
 	return h.at[id].After(since)
 }
 
-// isHeard tells whether a member was heard of within an election. This one always is.
+// isHeard tells whether another member was heard of within an election.
 func (n *Node) isHeard(id uint64) bool {
-	return id == n.cfg.Self.ID || n.heard.isSince(id, time.Now().Add(-n.cfg.Election))
+	return n.heard.isSince(id, time.Now().Add(-n.cfg.Election))
 }
 
 // A roster is the members at one moment, and how many changes made them so.
@@ -156,28 +156,29 @@ func (n *Node) checkReady(id uint64) error {
 	return nil
 }
 
-// checkMajority refuses members of which no majority was heard of. Somebody may be a little late, so it looks for the time of
-// an election.
+// checkMajority refuses members of whom no majority is heard of. It listens from now on, for the time of an election: so one that
+// has just ended does not count.
 func (n *Node) checkMajority(ctx context.Context, after roster) error {
-	end := time.Now().Add(n.cfg.Election)
+	since := time.Now()
 	for {
 		voters, found := 0, 0
 		for id, member := range after.members {
-			if !member.Learner {
-				voters++
-				if n.isHeard(id) {
-					found++
-				}
+			if member.Learner {
+				continue
+			}
+			voters++
+			if id == n.cfg.Self.ID || n.heard.isSince(id, since) {
+				found++
 			}
 		}
 		if found > voters/2 || voters == 0 { // (without voters it is refused where it is applied)
 			return nil
 		}
-		if ctx.Err() != nil || time.Now().After(end) {
+		if ctx.Err() != nil || time.Since(since) > n.cfg.Election {
 			return engine.Refused(fmt.Sprintf("of the members that would vote then, %d, only %d were heard of within %v: the group would "+
 				"stand still", voters, found, n.cfg.Election))
 		}
-		time.Sleep(n.cfg.Election / ticks)
+		time.Sleep(n.cfg.Election / ticks / 2)
 	}
 }
 

@@ -43,19 +43,36 @@ func (quiet) Fatal(v ...interface{})               { log.Fatal(v...) }
 func (quiet) Fatalf(form string, v ...interface{}) { log.Fatalf(form, v...) }
 
 // takeFolder makes the folder, and keeps every other process out of it.
-func (n *Node) takeFolder() error {
+func (n *Node) takeFolder() (err error) {
+	if err := os.MkdirAll(n.cfg.Dir, 0o700); err != nil {
+		return err
+	}
+	if n.lock, err = lockFolder(n.cfg.Dir); err != nil {
+		return err
+	}
+	if err := n.checkFinished(); err != nil {
+		return err
+	}
+	return n.openFolder()
+}
+
+// openFolder takes what the folder has, once no other process can.
+func (n *Node) openFolder() error {
 	if err := os.MkdirAll(n.snapFolder(), 0o700); err != nil {
 		return err
 	}
-	lock, err := fileutil.TryLockFile(filepath.Join(n.cfg.Dir, "lock"), os.O_WRONLY|os.O_CREATE, 0o600)
-	if err == fileutil.ErrLocked {
-		return fmt.Errorf("another process has the folder %s", n.cfg.Dir)
-	} else if err != nil {
-		return err
-	}
-	n.lock = lock
 	n.snaps = snap.New(n.zap, n.snapFolder())
 	return n.removeLeft()
+}
+
+const lockName = "lock"
+
+func lockFolder(folder string) (*fileutil.LockedFile, error) {
+	lock, err := fileutil.TryLockFile(filepath.Join(folder, lockName), os.O_WRONLY|os.O_CREATE, 0o600)
+	if err == fileutil.ErrLocked {
+		return nil, fmt.Errorf("another process has the folder %s", folder)
+	}
+	return lock, err
 }
 
 // removeLeft removes what was not finished when the process ended: snapshots, and files of the log that were made in advance. In
@@ -289,7 +306,15 @@ func (n *Node) restore(m raftpb.SnapshotMetadata) (head, error) {
 
 // beginAt takes the members of a snapshot; entries come behind it.
 func (n *Node) beginAt(m raftpb.SnapshotMetadata, head head) {
+	n.takeMembers(head)
+	n.conf, n.handed, n.unsnapped, n.frozen = m.ConfState, m.Index, 0, 0
+	atomic.StoreUint64(&n.saved, m.Index)
+}
+
+// takeMembers takes those that stand in a snapshot.
+func (n *Node) takeMembers(head head) {
 	n.mu.Lock()
+	defer n.mu.Unlock()
 	n.members, n.removed = map[uint64]engine.Member{}, map[uint64]bool{}
 	for _, member := range head.Members {
 		n.members[member.ID] = member
@@ -298,9 +323,6 @@ func (n *Node) beginAt(m raftpb.SnapshotMetadata, head head) {
 		n.removed[id] = true
 	}
 	n.changes = head.Changes
-	n.mu.Unlock()
-	n.conf, n.handed, n.unsnapped, n.frozen = m.ConfState, m.Index, 0, 0
-	atomic.StoreUint64(&n.saved, m.Index)
 }
 
 func (n *Node) fileOf(index uint64) string {

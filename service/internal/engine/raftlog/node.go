@@ -130,13 +130,7 @@ type outcome struct {
 
 // Start begins a member, or goes on with the one that the folder has.
 func Start(cfg Config, machine engine.Machine) (*Node, error) {
-	n := &Node{cfg: cfg, machine: machine, storage: raft.NewMemoryStorage(), applier: newApplier(),
-		seldom: ratelog.New(cfg.Log, 10, 10*time.Second), spoilt: make(chan raftpb.SnapshotMetadata), waiting: map[uint64]chan outcome{},
-		reads: map[uint64]chan uint64{}, members: map[uint64]engine.Member{},
-		removed: map[uint64]bool{}, heard: heard{at: map[uint64]time.Time{}}, starts: map[uint64]heardStart{},
-		vouched: map[uint64]start{}, hearings: make(chan hearing), round: newRound(), readers: make(chan struct{}, 1),
-		snapshots: make(chan chan error),
-		written:   make(chan error, 1), leaving: make(chan uint64), stop: make(chan struct{}), done: make(chan struct{})}
+	n := newNode(cfg, machine)
 	if err := n.begin(); err != nil {
 		n.release()
 		return nil, err
@@ -149,6 +143,15 @@ func Start(cfg Config, machine engine.Machine) (*Node, error) {
 	go n.watch()
 	go n.promoteLoop()
 	return n, nil
+}
+
+func newNode(cfg Config, machine engine.Machine) *Node {
+	return &Node{cfg: cfg, machine: machine, storage: raft.NewMemoryStorage(), applier: newApplier(),
+		seldom: ratelog.New(cfg.Log, 10, 10*time.Second), spoilt: make(chan raftpb.SnapshotMetadata), waiting: map[uint64]chan outcome{},
+		reads: map[uint64]chan uint64{}, members: map[uint64]engine.Member{}, removed: map[uint64]bool{},
+		heard: heard{at: map[uint64]time.Time{}}, starts: map[uint64]heardStart{}, vouched: map[uint64]start{},
+		hearings: make(chan hearing), round: newRound(), readers: make(chan struct{}, 1), snapshots: make(chan chan error),
+		written: make(chan error, 1), leaving: make(chan uint64), stop: make(chan struct{}), done: make(chan struct{})}
 }
 
 func (n *Node) begin() (err error) {
