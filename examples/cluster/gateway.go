@@ -12,12 +12,15 @@ import (
 	"strings"
 	"sync"
 	"time"
+
+	"lrcman/service/client"
 )
 
 // What the wide code has, and how long a fragment is.
 const (
 	fragmentsOfStripe = 16
 	dataOfStripe      = 12
+	mostStripes       = 4096 // of a book
 	fragmentLength    = 64 << 10
 )
 
@@ -52,7 +55,11 @@ type Gateway struct {
 }
 
 func openGateway(cluster *Cluster, folder string) (*Gateway, error) {
-	g := &Gateway{book: newBook(cluster), nodes: newNodes(cluster, limitOfNodes), file: filepath.Join(folder, "index")}
+	book, err := newBook(cluster)
+	if err != nil {
+		return nil, err
+	}
+	g := &Gateway{book: book, nodes: newNodes(cluster, limitOfNodes), file: filepath.Join(folder, "index")}
 	g.index.Objects = map[string]Object{}
 	text, err := os.ReadFile(g.file)
 	if err == nil {
@@ -83,6 +90,9 @@ func (g *Gateway) save() error {
 func (g *Gateway) number() (int, error) {
 	g.mu.Lock()
 	defer g.mu.Unlock()
+	if g.next == mostStripes {
+		return 0, errors.New("each number of a stripe was used")
+	}
 	if g.next == g.index.Reserved {
 		g.index.Reserved += ofReserve
 		if err := g.save(); err != nil {
@@ -105,7 +115,7 @@ func (g *Gateway) dropOthers() error {
 	stripes, err := g.book.Stripes()
 	for _, stripe := range stripes {
 		if err == nil && !isKnown[stripe.Number] {
-			_, err = g.book.Call("", fmt.Sprintf("drop %d", stripe.Number))
+			_, err = g.book.Call("", client.Drop(uint16(stripe.Number)))
 		}
 	}
 	return err
@@ -138,15 +148,15 @@ func (g *Gateway) putStripe(part []byte) (int, error) {
 		if err != nil {
 			return 0, err
 		}
-		reply, err := g.book.Call("", fmt.Sprintf("place %d", stripe))
+		reply, err := g.book.Call("", client.Place(uint16(stripe)))
 		switch {
 		case err != nil:
 			return 0, err
-		case reply.Kind == "placed":
+		case reply.Kind == client.Placed:
 			if g.writeAll(stripe, reply.Seats, fragments) {
 				return stripe, nil
 			}
-			if _, err := g.book.Call("", fmt.Sprintf("drop %d", stripe)); err != nil {
+			if _, err := g.book.Call("", client.Drop(uint16(stripe))); err != nil {
 				return 0, err
 			}
 		case reply.Refusal != noLawfulNode:
@@ -158,12 +168,12 @@ func (g *Gateway) putStripe(part []byte) (int, error) {
 }
 
 // writeAll writes all fragments to their homes at once, and tells whether all of them are durable.
-func (g *Gateway) writeAll(stripe int, homes []Seat, fragments [][]byte) bool {
+func (g *Gateway) writeAll(stripe int, homes []client.Seat, fragments [][]byte) bool {
 	failures := make(chan error)
 	for fragment, home := range homes {
 		go func(node, fragment int) {
 			failures <- g.nodes.Write(node, Name{stripe, fragment, 0}, fragments[fragment])
-		}(home.Node, fragment)
+		}(int(home.Node), fragment)
 	}
 	isWhole := true
 	for range homes {
@@ -171,7 +181,7 @@ func (g *Gateway) writeAll(stripe int, homes []Seat, fragments [][]byte) bool {
 	}
 	if !isWhole {
 		for fragment, home := range homes { // (as far as it goes: what is left takes room, and is never read)
-			_ = g.nodes.Delete(home.Node, Name{stripe, fragment, 0})
+			_ = g.nodes.Delete(int(home.Node), Name{stripe, fragment, 0})
 		}
 	}
 	return isWhole

@@ -3,6 +3,8 @@ package main
 import (
 	"fmt"
 	"time"
+
+	"lrcman/service/client"
 )
 
 // How often nodes are asked, and how often in a row before the book is told.
@@ -28,18 +30,19 @@ func (m *monitor) round() error {
 		return err
 	}
 	type answer struct {
-		row     NodeRow
+		row     client.Node
 		answers bool
 	}
 	told := make(chan answer)
 	for _, row := range rows {
-		go func(row NodeRow) { told <- answer{row, m.nodes.Answers(row.Node)} }(row)
+		go func(row client.Node) { told <- answer{row, m.nodes.Answers(int(row.Number))} }(row)
 	}
 	var failed error
 	for range rows {
 		it := <-told
-		m.count(it.row.Node, it.answers)
-		if err := m.decide(it.row, m.answers[it.row.Node]); err != nil {
+		node := int(it.row.Number)
+		m.count(node, it.answers)
+		if err := m.decide(it.row, m.answers[node]); err != nil {
 			failed = err
 		}
 	}
@@ -60,21 +63,21 @@ func (m *monitor) count(node int, answers bool) {
 }
 
 // decide makes the commands that a node calls for, if there are any. Those of a domain that upgrades are left alone.
-func (m *monitor) decide(row NodeRow, answers int) error {
-	switch isGone := row.Mode == "gone"; {
+func (m *monitor) decide(row client.Node, answers int) error {
+	switch isGone, node := row.Mode == "gone", int(row.Number); {
 	case row.Upgrading:
 		return nil
 	case isGone && answers >= answersToUp: // the book has given up what is on it
-		if err := m.nodes.Empty(row.Node); err != nil {
+		if err := m.nodes.Empty(node); err != nil {
 			return err
 		}
-		return m.tell("join", row.Node)
+		return m.tell(client.Join(row.Number))
 	case row.Down && answers >= answersToUp:
-		return m.tell("up", row.Node)
+		return m.tell(client.Up(row.Number))
 	case !isGone && !row.Down && answers <= -missesToDown:
-		return m.tell("down", row.Node)
+		return m.tell(client.Down(row.Number))
 	case !isGone && row.Down && answers <= -missesToFail:
-		return m.fail(row.Node)
+		return m.fail(node)
 	}
 	return nil
 }
@@ -85,16 +88,20 @@ func (m *monitor) fail(node int) error {
 	if err != nil || !isSafe {
 		return err
 	}
-	return m.tell("fail", node)
+	return m.tell(client.Fail(uint16(node)))
 }
 
-func (m *monitor) tell(word string, node int) error {
-	fmt.Printf("%s %d\n", word, node)
-	return m.book.Change(fmt.Sprintf("%s %d", word, node))
+func (m *monitor) tell(command client.Command) error {
+	fmt.Println(command)
+	return m.book.Change(command)
 }
 
 func runMonitor(given options) error {
-	m := &monitor{newBook(given.cluster), newNodes(given.cluster, limitOfMonitor), map[int]int{}}
+	book, err := newBook(given.cluster)
+	if err != nil {
+		return err
+	}
+	m := &monitor{book, newNodes(given.cluster, limitOfMonitor), map[int]int{}}
 	for {
 		if err := m.round(); err != nil {
 			fmt.Println("monitor:", err)

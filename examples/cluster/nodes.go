@@ -139,7 +139,7 @@ func rebuild(book *Book, nodes *Nodes, stripe, fragment int, missing []int) ([]b
 			var row []byte
 			var sources [][]byte
 			for _, source := range recipe {
-				row, sources = append(row, source.Coefficient), append(sources, found[source.Fragment])
+				row, sources = append(row, source.Coefficient), append(sources, found[int(source.Fragment)])
 			}
 			return combine([][]byte{row}, sources)[0], len(sources), nil
 		}

@@ -3,6 +3,7 @@ package main
 import (
 	"bytes"
 	"encoding/json"
+	"errors"
 	"fmt"
 	"net/http"
 	"net/http/httptest"
@@ -10,6 +11,8 @@ import (
 	"reflect"
 	"strings"
 	"testing"
+
+	"lrcman/service/client"
 )
 
 // A fakeBook replies as it is told, and notes what it is asked.
@@ -18,14 +21,28 @@ type fakeBook struct {
 	recipes map[string]string   // by the missing fragments of the question; one that is not there is undetermined
 	isSafe  bool
 	asked   []string
+	faults  []string // of calls, each before it is replied to: a status and a code
+	keys    []string // key and since of each call as it came
 }
 
 func (f *fakeBook) ServeHTTP(w http.ResponseWriter, r *http.Request) {
 	switch path := r.URL.Path; {
 	case strings.HasSuffix(path, "/call"):
-		var body struct{ Command, Worker, Key string }
+		var body struct {
+			Command, Worker, Key string
+			Since                uint64
+		}
 		if json.NewDecoder(r.Body).Decode(&body) != nil {
 			w.WriteHeader(http.StatusBadRequest)
+		}
+		f.keys = append(f.keys, fmt.Sprint(body.Key, " ", body.Since))
+		if len(f.faults) > 0 {
+			status, code := 0, ""
+			fmt.Sscan(f.faults[0], &status, &code)
+			f.faults = f.faults[1:]
+			w.WriteHeader(status)
+			fmt.Fprintf(w, `{"status":%d,"error":"words","code":"%s"}`, status, code)
+			return
 		}
 		f.asked = append(f.asked, body.Command)
 		replies := f.replies[strings.Fields(body.Command)[0]]
@@ -41,13 +58,15 @@ func (f *fakeBook) ServeHTTP(w http.ResponseWriter, r *http.Request) {
 			return
 		}
 		w.WriteHeader(http.StatusConflict)
-		fmt.Fprint(w, `{"status":409,"error":"undetermined"}`)
+		fmt.Fprint(w, `{"status":409,"error":"no recipe","code":"undetermined"}`)
 	case strings.HasSuffix(path, "/may-lose"):
 		fmt.Fprintf(w, `{"safe":%v}`, f.isSafe)
+	case path == "/status":
+		fmt.Fprint(w, `{"applied":7}`)
 	case path == "/matrix":
 		fmt.Fprint(w, `{"rows":[]}`)
 	default:
-		fmt.Fprint(w, `{"rows":[{"stripe":1,"home_0":"7:0","home_1":"7:1","home_2":"7:2","home_3":"7:3"}]}`)
+		fmt.Fprint(w, `{"rows":[{"stripe":1,"code":"wide","home_0":"7:0","home_1":"7:1","home_2":"7:2","home_3":"7:3"}]}`)
 	}
 }
 
@@ -78,7 +97,16 @@ func newTest(t *testing.T, book *fakeBook) (*Book, *Nodes) {
 			t.Fatal(err)
 		}
 	}
-	return newBook(cluster), nodes
+	asked, err := newBook(cluster)
+	if err != nil {
+		t.Fatal(err)
+	}
+	return asked, nodes
+}
+
+// lease is one of fragment 3 of stripe 1.
+func lease(target uint16, epoch uint32) *client.Grant {
+	return &client.Grant{Stripe: 1, Fragment: 3, Target: client.Seat{Node: target}, Epoch: epoch}
 }
 
 func source(fragment, coefficient int) string {
@@ -89,7 +117,7 @@ func TestAWorkerReportsWhatItWrote(t *testing.T) {
 	two := source(0, 1) + "," + source(1, 1) // the sum of 1 and 2
 	for _, it := range []struct {
 		name    string
-		target  int
+		target  uint16
 		done    []string
 		recipes map[string]string
 		asked   []string
@@ -111,7 +139,7 @@ func TestAWorkerReportsWhatItWrote(t *testing.T) {
 		fake := &fakeBook{replies: map[string][]string{"done": it.done, "abandon": {ended}}, recipes: it.recipes}
 		book, nodes := newTest(t, fake)
 		w := worker{"w", book, nodes}
-		done, err := w.repair(Reply{Stripe: 1, Fragment: 3, Target: Seat{Node: it.target}, Epoch: 2}, nil)
+		done, err := w.repair(lease(it.target, 2), nil)
 		text, _ := nodes.Read(8, 1, 3)
 		isRight := it.want == 0 && text == nil || it.want != 0 && bytes.Equal(text, full(it.want))
 		if !isRight || err != nil || done.isDone != it.isDone || !reflect.DeepEqual(fake.asked, it.asked) {
@@ -126,36 +154,69 @@ func TestALateWorkerLeavesWhatIsNewer(t *testing.T) {
 	if err := nodes.Write(8, Name{1, 3, 5}, full(9)); err != nil {
 		t.Fatal(err)
 	}
-	done, err := (&worker{"w", book, nodes}).repair(Reply{Stripe: 1, Fragment: 3, Target: Seat{Node: 8}, Epoch: 4}, nil)
+	done, err := (&worker{"w", book, nodes}).repair(lease(8, 4), nil)
 	if text, _ := nodes.Read(8, 1, 3); !bytes.Equal(text, full(9)) || done.isDone || err != nil || len(fake.asked) != 1 {
 		t.Errorf("%.3v %+v %v %q", text, done, err, fake.asked)
 	}
 }
 
+// A report that nobody tells of is asked again by its key. Where the key is forgotten, it may have been made: then the bytes are at
+// home there, and have to stay. A second report would be refused as if the lease had ended.
+func TestAReportThatNobodyTellsOf(t *testing.T) {
+	for _, it := range []struct {
+		name   string
+		faults []string
+		isDone bool
+		isKept bool
+	}{
+		{"is asked again by its key", []string{"504 outcome_unknown", "503 no_leader", "504 outcome_unknown"}, true, true},
+		{"may be made, and its key is forgotten", []string{"504 outcome_unknown", "409 key_forgotten"}, false, true},
+		{"is not made, and its key may be forgotten", []string{"503 no_leader", "409 key_forgotten"}, true, true},
+		{"is refused before it is made", []string{"404 no_book"}, false, true},
+	} {
+		fake := &fakeBook{replies: map[string][]string{"done": {ended}}, recipes: map[string]string{"": source(0, 1)}, faults: it.faults}
+		book, nodes := newTest(t, fake)
+		done, err := (&worker{"w", book, nodes}).repair(lease(8, 4), nil)
+		var forgotten *client.KeyForgotten
+		if errors.As(err, &forgotten) != strings.HasPrefix(it.name, "may be made") || done.isDone != it.isDone {
+			t.Errorf("%s: %+v %v", it.name, done, err)
+		}
+		for _, key := range fake.keys {
+			isRenewed := strings.HasPrefix(it.name, "is not made")
+			if key != fake.keys[0] && !isRenewed || len(key) < 34 {
+				t.Errorf("%s: keys %q", it.name, fake.keys)
+			}
+		}
+		if _, err := nodes.Read(8, 1, 3); (err == nil) != it.isKept {
+			t.Errorf("%s: what was written: %v", it.name, err)
+		}
+	}
+}
+
 func TestAMonitorWaitsBeforeItTells(t *testing.T) {
 	for _, it := range []struct {
-		row     NodeRow
+		row     client.Node
 		answers int
 		isSafe  bool
 		want    []string
 	}{
-		{NodeRow{Mode: "active"}, 1, true, nil},
-		{NodeRow{Mode: "active"}, 1 - missesToDown, true, nil},
-		{NodeRow{Mode: "active"}, -missesToDown, true, []string{"down 7"}},
-		{NodeRow{Mode: "draining"}, -missesToDown, true, []string{"down 7"}},
-		{NodeRow{Mode: "active", Upgrading: true}, -missesToFail, true, nil},
-		{NodeRow{Mode: "active", Down: true}, 1 - missesToFail, true, nil},
-		{NodeRow{Mode: "active", Down: true}, -missesToFail, true, []string{"fail 7"}},
-		{NodeRow{Mode: "active", Down: true}, -missesToFail, false, nil},
-		{NodeRow{Mode: "active", Down: true}, answersToUp - 1, true, nil},
-		{NodeRow{Mode: "active", Down: true}, answersToUp, true, []string{"up 7"}},
-		{NodeRow{Mode: "gone"}, -missesToFail, true, nil},
-		{NodeRow{Mode: "gone"}, answersToUp, true, []string{"join 7"}},
+		{client.Node{Mode: "active"}, 1, true, nil},
+		{client.Node{Mode: "active"}, 1 - missesToDown, true, nil},
+		{client.Node{Mode: "active"}, -missesToDown, true, []string{"down 7"}},
+		{client.Node{Mode: "draining"}, -missesToDown, true, []string{"down 7"}},
+		{client.Node{Mode: "active", Upgrading: true}, -missesToFail, true, nil},
+		{client.Node{Mode: "active", Down: true}, 1 - missesToFail, true, nil},
+		{client.Node{Mode: "active", Down: true}, -missesToFail, true, []string{"fail 7"}},
+		{client.Node{Mode: "active", Down: true}, -missesToFail, false, nil},
+		{client.Node{Mode: "active", Down: true}, answersToUp - 1, true, nil},
+		{client.Node{Mode: "active", Down: true}, answersToUp, true, []string{"up 7"}},
+		{client.Node{Mode: "gone"}, -missesToFail, true, nil},
+		{client.Node{Mode: "gone"}, answersToUp, true, []string{"join 7"}},
 	} {
 		fake := &fakeBook{replies: map[string][]string{"down": {changed}, "up": {changed}, "fail": {changed}, "join": {changed}}}
 		fake.isSafe = it.isSafe
 		book, nodes := newTest(t, fake)
-		it.row.Node = 7
+		it.row.Number = 7
 		m := monitor{book, nodes, map[int]int{}}
 		if err := m.decide(it.row, it.answers); err != nil || !reflect.DeepEqual(fake.asked, it.want) {
 			t.Errorf("%+v %d: %q %v", it.row, it.answers, fake.asked, err)
@@ -186,8 +247,8 @@ func TestAGatewayUsesNoNumberTwiceAndDropsWhatNobodyWasTold(t *testing.T) {
 		{2 * ofReserve, nil}, // now an object has it
 	} {
 		fake := &fakeBook{replies: map[string][]string{"drop": {`{"reply":"dropped","kind":"dropped"}`}}}
-		book, nodes := newTest(t, fake)
-		g, err := openGateway(&Cluster{Book: "p0", Servers: book.servers, Nodes: nodes.cluster.Nodes}, folder)
+		_, nodes := newTest(t, fake)
+		g, err := openGateway(nodes.cluster, folder)
 		if err != nil {
 			t.Fatal(err)
 		}

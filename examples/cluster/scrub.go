@@ -1,22 +1,29 @@
 package main
 
-import "fmt"
+import (
+	"fmt"
+
+	"lrcman/service/client"
+)
 
 // mend replaces a damaged fragment of a node that is well, as docs/CODING.md has it: it is leased as if its node were to be
 // emptied, and rebuilt without it.
 func mend(book *Book, nodes *Nodes, stripe, fragment, node int) (result, error) {
-	if err := book.Change(fmt.Sprintf("drain %d", node)); err != nil {
+	if err := book.Change(client.Drain(uint16(node))); err != nil {
 		return result{}, err
 	}
-	lease, err := book.Call("scrub", fmt.Sprintf("lease %d %d", stripe, fragment))
-	if err := book.Change(fmt.Sprintf("undrain %d", node)); err != nil {
+	reply, err := book.Call("scrub", client.Lease(uint16(stripe), uint8(fragment)))
+	if err := book.Change(client.Undrain(uint16(node))); err != nil {
 		return result{}, err
 	}
-	if err != nil || lease.Kind != "granted" { // (where a worker was faster, it finds the checksum wrong and rebuilds too)
-		return result{words: lease.Line}, err
+	if err != nil {
+		return result{}, err
+	}
+	if reply.Kind != client.Granted { // (where a worker was faster, it finds the checksum wrong and rebuilds too)
+		return result{words: reply.Line}, nil
 	}
 	w := worker{"scrub", book, nodes}
-	return w.repair(lease, []int{fragment})
+	return w.repair(reply.Lease, []int{fragment})
 }
 
 // wholeOf are the places of the fragments that are whole, by node. A node that does not answer has none: the monitor knows of it.
@@ -37,7 +44,11 @@ func wholeOf(nodes *Nodes) map[int]map[string]bool {
 
 // runScrub has every node compare the checksums of all that it has, and mends each fragment that is damaged or not there.
 func runScrub(given options) error {
-	book, nodes := newBook(given.cluster), newNodes(given.cluster, limitOfNodes)
+	book, err := newBook(given.cluster)
+	if err != nil {
+		return err
+	}
+	nodes := newNodes(given.cluster, limitOfNodes)
 	stripes, err := book.Stripes()
 	if err != nil {
 		return err

@@ -3,6 +3,8 @@ package main
 import (
 	"fmt"
 	"time"
+
+	"lrcman/service/client"
 )
 
 const (
@@ -25,15 +27,15 @@ type result struct {
 }
 
 // repair does the work of a lease. Fragments that are named as missing are not read: so a damaged one is rebuilt and not moved.
-func (w *worker) repair(lease Reply, missing []int) (result, error) {
-	name := Name{lease.Stripe, lease.Fragment, lease.Epoch}
-	placed, err := w.book.Stripe(lease.Stripe)
+func (w *worker) repair(lease *client.Grant, missing []int) (result, error) {
+	name, target := Name{int(lease.Stripe), int(lease.Fragment), lease.Epoch}, int(lease.Target.Node)
+	placed, err := w.book.Stripe(name.Stripe)
 	if err != nil {
 		return result{}, err
 	}
-	data, reads, err := rebuild(w.book, w.nodes, lease.Stripe, lease.Fragment, missing)
+	data, reads, err := rebuild(w.book, w.nodes, name.Stripe, name.Fragment, missing)
 	if err == nil {
-		err = w.nodes.Write(lease.Target.Node, name, data)
+		err = w.nodes.Write(target, name, data)
 	}
 	switch {
 	case err == errFenced: // a later lease was granted, and its worker has written
@@ -41,11 +43,14 @@ func (w *worker) repair(lease Reply, missing []int) (result, error) {
 	case isUndetermined(err): // the lease is kept until ticks end it, so that this worker goes on with others meanwhile
 		return result{words: err.Error()}, nil
 	case err != nil: // the target does not answer
-		reply, abandoned := w.book.Call(w.name, fmt.Sprintf("abandon %d %d %d", lease.Stripe, lease.Fragment, lease.Epoch))
-		return result{words: fmt.Sprintf("abandoned (%s): %v", reply.Line, err)}, abandoned
+		reply, abandoned := w.book.Call(w.name, lease.Abandon())
+		if abandoned != nil {
+			return result{}, abandoned
+		}
+		return result{words: fmt.Sprintf("abandoned (%s): %v", reply.Line, err)}, nil
 	}
 	done, err := w.report(lease, name)
-	if former, isThere := placed.Homes[lease.Fragment]; done.isDone && isThere && former != lease.Target.Node {
+	if former, isThere := placed.Homes[name.Fragment]; done.isDone && isThere && former != target {
 		_ = w.nodes.Delete(former, Name{name.Stripe, name.Fragment, name.Epoch - 1}) // (what is left takes room, and is never read)
 	}
 	done.reads = reads
@@ -53,20 +58,20 @@ func (w *worker) repair(lease Reply, missing []int) (result, error) {
 }
 
 // report tells the book that the fragment is on its target.
-func (w *worker) report(lease Reply, name Name) (result, error) {
+func (w *worker) report(lease *client.Grant, name Name) (result, error) {
 	for try := 0; ; try++ {
-		reply, err := w.book.Call(w.name, fmt.Sprintf("done %d %d %d", lease.Stripe, lease.Fragment, lease.Epoch))
+		reply, err := w.book.Call(w.name, lease.Done())
 		switch {
-		case err != nil:
+		case err != nil: // (what was written stays: nobody may know whether it was reported, and then it is at home there)
 			return result{}, err
-		case reply.Kind == "ended":
+		case reply.Kind == client.Ended:
 			return result{isDone: true, words: "done"}, nil
 		case reply.Refusal == notHolder: // what is there under this epoch is another worker's
 			return result{words: reply.Line}, nil
 		case reply.Refusal == targetOffline && try < mostReports: // until it is back, or the lease ends
 			time.Sleep(pauseOfWorker)
 		default: // the lease has ended: what was written is nobody's
-			return result{words: reply.Line}, w.nodes.Delete(lease.Target.Node, name)
+			return result{words: reply.Line}, w.nodes.Delete(int(lease.Target.Node), name)
 		}
 	}
 }
@@ -74,7 +79,7 @@ func (w *worker) report(lease Reply, name Name) (result, error) {
 // turn works on one lease, and tells whether there was one.
 func (w *worker) turn() (bool, error) {
 	lease, err := w.book.Next(w.name)
-	if err != nil || lease.Kind != "granted" {
+	if err != nil || lease == nil {
 		return false, err
 	}
 	done, err := w.repair(lease, nil)
@@ -84,7 +89,11 @@ func (w *worker) turn() (bool, error) {
 }
 
 func runWorker(given options) error {
-	w := &worker{fmt.Sprintf("worker-%d", given.number), newBook(given.cluster), newNodes(given.cluster, limitOfNodes)}
+	book, err := newBook(given.cluster)
+	if err != nil {
+		return err
+	}
+	w := &worker{fmt.Sprintf("worker-%d", given.number), book, newNodes(given.cluster, limitOfNodes)}
 	for {
 		isDone, err := w.turn()
 		if err != nil {

@@ -20,6 +20,7 @@ type options struct {
 	worker  string
 	at      *Position
 	isNow   bool
+	isStale bool
 }
 
 // WithKey gives a request a key of the caller's own. If it was sent before, since is that of its first try, as an OutcomeUnknown
@@ -39,6 +40,9 @@ func WithPosition(at Position) Option { return func(o *options) { o.at = &at } }
 
 // WithNow makes a look that has all that was told before it was asked for.
 func WithNow() Option { return func(o *options) { o.isNow = true } }
+
+// WithStale makes a backup of what the member that answers has.
+func WithStale() Option { return func(o *options) { o.isStale = true } }
 
 func optionsOf(given []Option) *options {
 	o := &options{}

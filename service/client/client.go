@@ -105,6 +105,12 @@ func (cfg Config) withDefaults() Config {
 	return cfg
 }
 
+// CheckServer tells why a text is no server of a Config.
+func CheckServer(text string) error {
+	_, err := serverOf(strings.TrimSpace(text))
+	return err
+}
+
 func serverOf(text string) (string, error) {
 	full := text
 	if !strings.Contains(full, "://") {

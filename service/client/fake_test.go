@@ -38,6 +38,7 @@ type group struct {
 	late    []call // taken, and made at a later request
 	window  int
 	calls   []call // that came, in each try
+	ahead   []call // with a since that is not reached yet: their keys would never be forgotten
 }
 
 func newGroup(window int) *group {
@@ -84,6 +85,7 @@ const (
 	none       fault = iota
 	busy             // 503, nothing made
 	tooMany          // 429, nothing made
+	full             // 507, nothing made
 	unknown          // 504, made
 	notYet           // 504, made later
 	never            // 504, never made
@@ -124,9 +126,12 @@ func (m *member) ServeHTTP(w http.ResponseWriter, r *http.Request) {
 	case strings.HasSuffix(r.URL.Path, "/call"):
 		text, _ := io.ReadAll(r.Body)
 		var it call
-		if json.Unmarshal(text, &it) != nil || it.Key == "" || it.Since == 0 || it.Since > m.g.index {
+		if json.Unmarshal(text, &it) != nil || it.Key == "" || it.Since == 0 {
 			m.fail(w, 400, "bad_request")
 			return
+		}
+		if it.Since > m.g.index {
+			m.g.ahead = append(m.g.ahead, it)
 		}
 		m.g.calls = append(m.g.calls, it)
 		m.g.makeLate()
@@ -142,11 +147,11 @@ func (m *member) answer(w http.ResponseWriter, it call, what fault) {
 	switch what {
 	case none:
 		m.tell(w, it)
-	case busy, tooMany:
+	case busy, tooMany, full:
 		if m.rest != "" {
 			w.Header().Set("Retry-After", m.rest)
 		}
-		m.fail(w, map[fault]int{busy: 503, tooMany: 429}[what], "busy")
+		m.fail(w, map[fault]int{busy: 503, tooMany: 429, full: 507}[what], "busy")
 	case unknown:
 		made()
 		m.fail(w, 504, CodeOutcomeUnknown)
@@ -162,7 +167,7 @@ func (m *member) answer(w http.ResponseWriter, it call, what fault) {
 		cut(w, "")
 	case cutWithin:
 		made()
-		cut(w, "HTTP/1.1 200 OK\r\nContent-Type: application/json\r\nContent-Length: 300\r\nLrcmand-Index: 9999\r\n\r\n{\"n\":1,")
+		cut(w, fmt.Sprintf("HTTP/1.1 200 OK\r\nContent-Length: 300\r\nLrcmand-Index: %d\r\n\r\n{\"n\":1,", m.g.index))
 	case hang:
 		made()
 		m.g.mu.Unlock()

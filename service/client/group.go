@@ -4,6 +4,7 @@ import (
 	"context"
 	"encoding/json"
 	"fmt"
+	"io"
 	"net/http"
 	"net/url"
 	"strings"
@@ -12,9 +13,10 @@ import (
 // A Member is one of the group.
 type Member struct {
 	ID      uint64 `json:"id"`
-	Peer    string `json:"peer"`   // HOST:PORT for members
-	Client  string `json:"client"` // HOST:PORT for clients
-	Learner bool   `json:"learner"`
+	Peer    string `json:"peer"`    // HOST:PORT for members
+	Client  string `json:"client"`  // HOST:PORT for clients
+	Learner bool   `json:"learner"` // it neither votes nor leads
+	Promote bool   `json:"promote"` // it votes once it has what the leader has
 	Leader  bool   `json:"leader"`
 }
 
@@ -156,4 +158,45 @@ func (c *Client) Health(ctx context.Context) error {
 		return fail.err
 	}
 	return nil
+}
+
+// Backup is all that the group has at one place of its log, to be kept in a file for `lrcmand restore`. All that was told before is
+// in it; with WithStale it is what the member that answers has, which may have lost its majority. A reader that ends with an error
+// has given a part of it alone. It has to be closed.
+func (c *Client) Backup(ctx context.Context, given ...Option) (io.ReadCloser, error) {
+	values := url.Values{}
+	if optionsOf(given).isStale {
+		values.Set("now", "0")
+	}
+	ctx, cancel := context.WithCancel(ctx)
+	from, to := io.Pipe()
+	begun := make(chan error, 1)
+	go func() {
+		q := &query{method: "GET", path: "/backup", values: values, isStream: true}
+		q.take = func(answer *http.Response) error {
+			begun <- nil
+			_, err := io.Copy(to, answer.Body)
+			to.CloseWithError(err)
+			return nil
+		}
+		if err := c.send(ctx, q); err != nil {
+			begun <- err
+		}
+	}()
+	if err := <-begun; err != nil {
+		cancel()
+		return nil, err
+	}
+	return &backup{from, cancel}, nil
+}
+
+type backup struct {
+	*io.PipeReader
+	cancel func()
+}
+
+// Close ends the request.
+func (b *backup) Close() error {
+	b.cancel()
+	return b.PipeReader.Close()
 }

@@ -50,8 +50,8 @@ func checkOne(t *testing.T, g *group, c *Client, members []*member) string {
 		made[it.Key] = g.made[it.Key]
 	}
 	g.mu.Unlock()
-	if len(made) > 1 {
-		t.Errorf("a call has %d keys", len(made))
+	if len(made) > 1 || len(g.ahead) > 0 {
+		t.Errorf("a call has %d keys, and these are ahead: %+v", len(made), g.ahead)
 	}
 	count, key := 0, ""
 	for key, count = range made {
@@ -85,7 +85,7 @@ func TestEachFaultIsToldAsWhatItIs(t *testing.T) {
 		fault fault
 		maybe bool // where nobody ever tells more
 	}{
-		{"503", busy, false}, {"429", tooMany, false}, {"504", unknown, true}, {"504 that is made later", notYet, true},
+		{"503", busy, false}, {"429", tooMany, false}, {"507", full, false}, {"504", unknown, true}, {"504 that is made later", notYet, true},
 		{"504 that is never made", never, true}, {"cut before", cutBefore, true}, {"cut after", cutAfter, true},
 		{"cut within the answer", cutWithin, true}, {"a member that hangs", hang, true}, {"502 of another", strange, true},
 		{"503 of another", strange503, true}, {"500", broken, true},

@@ -215,7 +215,7 @@ func TestWhatIsToldOfChangesIsRead(t *testing.T) {
 	if rules, err := c.Rules(background); err != nil || rules != (Rules{2, 1, 2, true}) {
 		t.Errorf("%+v %v", rules, err)
 	}
-	if list, err := c.Members(background); err != nil || len(list) != 2 || list[0] != (Member{1, "h1:2", "h1:1", false, true}) || !list[1].Learner {
+	if list, err := c.Members(background); err != nil || len(list) != 2 || list[0] != (Member{ID: 1, Peer: "h1:2", Client: "h1:1", Leader: true}) || !list[1].Learner {
 		t.Errorf("%+v %v", list, err)
 	}
 	var told *Error
@@ -368,4 +368,37 @@ func TestALookGoesOnWhereAMemberBreaksOffOrHangs(t *testing.T) {
 		defer bad.Close()
 	}
 	close(end)
+}
+
+func TestABackupIsReadToItsEnd(t *testing.T) {
+	s, c := record(t, map[string]string{"GET /backup": "all of it"})
+	for _, it := range []struct {
+		options []Option
+		asked   string
+	}{{nil, "GET /backup"}, {[]Option{WithStale()}, "GET /backup?now=0"}} {
+		from, err := c.Backup(background, it.options...)
+		if err != nil {
+			t.Fatal(err)
+		}
+		text, err := io.ReadAll(from)
+		if from.Close() != nil || err != nil || string(text) != "all of it\n" || s.asked[len(s.asked)-1] != it.asked {
+			t.Errorf("%q %v, asked %v", text, err, s.asked)
+		}
+	}
+	broken := httptest.NewServer(http.HandlerFunc(func(w http.ResponseWriter, r *http.Request) {
+		cut(w, "HTTP/1.1 200 OK\r\nTransfer-Encoding: chunked\r\n\r\n4\r\npart\r\n")
+	}))
+	defer broken.Close()
+	from, err := newClient(t, Config{Servers: []string{broken.URL}}).Backup(background)
+	if err != nil {
+		t.Fatal(err)
+	}
+	if text, err := io.ReadAll(from); err == nil || string(text) != "part" {
+		t.Errorf("a part: %q %v", text, err)
+	}
+	from.Close()
+	s.answers = nil
+	if _, err := c.Backup(background); err == nil {
+		t.Error("there is no backup, and it is read")
+	}
 }

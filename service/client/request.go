@@ -274,7 +274,8 @@ func (c *Client) request(ctx context.Context, server string, q *query) (*http.Re
 }
 
 // isPassing are the statuses of a member that say that nothing was made, and that it may be made elsewhere or later.
-var isPassing = map[int]bool{http.StatusServiceUnavailable: true, http.StatusTooManyRequests: true, http.StatusRequestTimeout: true}
+var isPassing = map[int]bool{http.StatusServiceUnavailable: true, http.StatusTooManyRequests: true, http.StatusRequestTimeout: true,
+	http.StatusInsufficientStorage: true}
 
 // failureOf reads an answer other than 200. What is not an object as lrcmand writes it comes from somebody between, who may have
 // passed the request on.

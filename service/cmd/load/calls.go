@@ -7,6 +7,7 @@ import (
 	"io"
 	"net"
 	"net/http"
+	"strconv"
 	"time"
 )
 
@@ -32,7 +33,17 @@ type caller struct {
 	address       string
 	connection    net.Conn
 	reader        *bufio.Reader
+	heard         uint64 // the highest index of the log that was told
+	step, since   uint64 // of the request that is being made: its since is from before its first try
 }
+
+// A refusal is an answer that another try would not change.
+type refusal struct {
+	status int
+	text   []byte
+}
+
+func (r *refusal) Error() string { return fmt.Sprintf("status %d: %s", r.status, r.text) }
 
 // call is the book and the command of a request.
 func (c *caller) call(step uint64) (book uint64, command string) {
@@ -48,6 +59,9 @@ func (c *caller) call(step uint64) (book uint64, command string) {
 }
 
 func (c *caller) ask(address string, step uint64) (bool, error) {
+	if step != c.step || c.since == 0 {
+		c.step, c.since = step, c.heard
+	}
 	isRefused, err := c.tryAsk(address, step)
 	if err != nil {
 		c.close()
@@ -71,8 +85,15 @@ func (c *caller) tryAsk(address string, step uint64) (bool, error) {
 	}
 	defer answer.Body.Close()
 	text, err := io.ReadAll(answer.Body)
-	if err == nil && answer.StatusCode != http.StatusOK {
-		err = fmt.Errorf("status %d: %s", answer.StatusCode, text)
+	switch status := answer.StatusCode; {
+	case err != nil:
+	case status >= 400 && status < 500 && status != http.StatusTooManyRequests:
+		err = &refusal{status, text}
+	case status != http.StatusOK:
+		err = fmt.Errorf("status %d: %s", status, text)
+	}
+	if index, wrong := strconv.ParseUint(answer.Header.Get("Lrcmand-Index"), 10, 64); err == nil && wrong == nil && index > c.heard {
+		c.heard = index
 	}
 	return bytes.Contains(text, []byte(`"kind":"refused"`)), err
 }
@@ -93,7 +114,7 @@ func (c *caller) connect(address string) (err error) {
 // request is a whole request. (Package http would take as much time for it as the server)
 func (c *caller) request(step uint64) []byte {
 	book, command := c.call(step)
-	body := fmt.Sprintf(`{"command":"%s","key":"%s-%d-%d"}`, command, c.run, c.client, step)
+	body := fmt.Sprintf(`{"command":"%s","key":"%s-%d-%d","since":%d}`, command, c.run, c.client, step, c.since)
 	head := fmt.Sprintf("POST /books/p%d/call HTTP/1.1\r\nHost: %s\r\n", book, c.address)
 	fields := fmt.Sprintf("Content-Type: application/json\r\nContent-Length: %d\r\n\r\n", len(body))
 	return []byte(head + fields + body)

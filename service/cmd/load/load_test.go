@@ -2,6 +2,8 @@ package main
 
 import (
 	"encoding/json"
+	"errors"
+	"fmt"
 	"io"
 	"net"
 	"net/http"
@@ -16,11 +18,20 @@ import (
 type service struct {
 	mu    sync.Mutex
 	heard map[string]int
+	since map[string]uint64 // of the first try of each key; the index rises with each call
+	index uint64
 	calls map[string]int // told, by book and command
 }
 
 func (s *service) ServeHTTP(w http.ResponseWriter, r *http.Request) {
-	var body struct{ Command, Key string }
+	var body struct {
+		Command, Key string
+		Since        uint64
+	}
+	if r.URL.Path == "/status" {
+		io.WriteString(w, `{"applied":7}`)
+		return
+	}
 	text, err := io.ReadAll(r.Body)
 	if err != nil || json.Unmarshal(text, &body) != nil {
 		w.WriteHeader(http.StatusBadRequest)
@@ -29,6 +40,14 @@ func (s *service) ServeHTTP(w http.ResponseWriter, r *http.Request) {
 	s.mu.Lock()
 	defer s.mu.Unlock()
 	s.heard[body.Key]++
+	if s.index++; s.heard[body.Key] == 1 {
+		s.since[body.Key] = body.Since
+	}
+	if body.Since < 7 || body.Since > 7+s.index || body.Since != s.since[body.Key] {
+		w.WriteHeader(http.StatusConflict)
+		return
+	}
+	w.Header().Set("Lrcmand-Index", fmt.Sprint(7+s.index))
 	if len(s.heard)%3 == 0 && s.heard[body.Key] == 1 {
 		w.WriteHeader(http.StatusServiceUnavailable)
 		return
@@ -51,7 +70,7 @@ func TestEachRequestIsToldOnce(t *testing.T) {
 		{"turns", 12, "/books/p1/call place 1"},
 		{"fill", 0, "/books/p2/call place 5"},
 	} {
-		s := &service{heard: map[string]int{}, calls: map[string]int{}}
+		s := &service{heard: map[string]int{}, since: map[string]uint64{}, calls: map[string]int{}}
 		server := httptest.NewServer(s)
 		address := strings.TrimPrefix(server.URL, "http://")
 		words := "--clients 4 --each 6 --books 4 --run r --kind " + it.kind + " --addresses " + address
@@ -71,6 +90,9 @@ func TestEachRequestIsToldOnce(t *testing.T) {
 		if report.Told != 24 || told != 24 || len(s.heard) != 24 {
 			t.Errorf("%s: %d told, the service told %d of %d keys, and not 24", it.kind, report.Told, told, len(s.heard))
 		}
+		if s.since["r-0-5"] <= 7 {
+			t.Errorf("%s: the last request of client 0 has the since %d", it.kind, s.since["r-0-5"])
+		}
 		if report.Again != 8 || report.Refused != it.refused || s.calls[it.call] == 0 {
 			t.Errorf("%s: %+v, calls %v", it.kind, report, s.calls)
 		}
@@ -78,7 +100,7 @@ func TestEachRequestIsToldOnce(t *testing.T) {
 }
 
 func TestAnotherAddressIsTried(t *testing.T) {
-	s := &service{heard: map[string]int{}, calls: map[string]int{}}
+	s := &service{heard: map[string]int{}, since: map[string]uint64{}, calls: map[string]int{}}
 	server := httptest.NewServer(s)
 	defer server.Close()
 	nobody, err := net.Listen("tcp", "127.0.0.1:0")
@@ -93,6 +115,28 @@ func TestAnotherAddressIsTried(t *testing.T) {
 	}
 	if report, err := run(o); err != nil || report.Told != 2 || report.Again != 1 {
 		t.Errorf("%+v, %v", report, err)
+	}
+}
+
+// A key that is forgotten is no reply, and no further try makes it one.
+func TestWhatIsRefusedIsNotAskedAgain(t *testing.T) {
+	tries := 0
+	server := httptest.NewServer(http.HandlerFunc(func(w http.ResponseWriter, r *http.Request) {
+		if r.URL.Path == "/status" {
+			io.WriteString(w, `{"applied":7}`)
+			return
+		}
+		tries++
+		w.WriteHeader(http.StatusConflict)
+	}))
+	defer server.Close()
+	o, err := parse([]string{"--addresses", strings.TrimPrefix(server.URL, "http://"), "--clients", "1", "--each", "1", "--run", "r"})
+	if err != nil {
+		t.Fatal(err)
+	}
+	var refused *refusal
+	if _, err := run(o); !errors.As(err, &refused) || refused.status != 409 || tries != 1 {
+		t.Errorf("%v after %d tries", err, tries)
 	}
 }
 

@@ -1,10 +1,14 @@
 package main
 
 import (
+	"context"
+	"errors"
 	"fmt"
 	"sort"
 	"sync"
 	"time"
+
+	lrcmand "lrcman/service/client"
 )
 
 // patience is how long a client asks for one reply before the run fails.
@@ -46,9 +50,13 @@ type report struct {
 }
 
 func run(o *options) (*report, error) {
+	heard, err := indexOf(o)
+	if err != nil {
+		return nil, err
+	}
 	clients := make([]*client, o.clients)
 	for i := range clients {
-		clients[i] = &client{number: i, asker: askerOf(o, i)}
+		clients[i] = &client{number: i, asker: askerOf(o, i, heard)}
 	}
 	begun := time.Now()
 	var all sync.WaitGroup
@@ -64,11 +72,24 @@ func run(o *options) (*report, error) {
 	return reportOf(clients, time.Since(begun))
 }
 
-func askerOf(o *options, number int) asker {
+// indexOf is an index of the log that lrcmand has reached: the since of the first requests.
+func indexOf(o *options) (uint64, error) {
+	if o.kind == put {
+		return 0, nil
+	}
+	asked, err := lrcmand.New(lrcmand.Config{Servers: o.addresses, Timeout: patience, Attempt: o.limit})
+	if err != nil {
+		return 0, err
+	}
+	defer asked.Close()
+	return asked.Index(context.Background())
+}
+
+func askerOf(o *options, number int, heard uint64) asker {
 	if o.kind == put {
 		return &putter{client: number, limit: o.limit}
 	}
-	return &caller{kind: o.kind, client: uint64(number), books: o.books, run: o.run, limit: o.limit}
+	return &caller{kind: o.kind, client: uint64(number), books: o.books, run: o.run, limit: o.limit, heard: heard}
 }
 
 func (c *client) work(o *options, begun time.Time) {
@@ -84,7 +105,8 @@ func (c *client) work(o *options, begun time.Time) {
 				c.note(begun, asked, isRefused)
 				break
 			}
-			if time.Since(asked) > patience {
+			var refused *refusal
+			if time.Since(asked) > patience || errors.As(err, &refused) {
 				c.err = fmt.Errorf("client %d, request %d is not told: %w", c.number, step, err)
 				return
 			}

@@ -72,7 +72,7 @@ func makeBook(t *testing.T, address string, b *recorded.Book) {
 			words = append(words, "--worker", strings.ReplaceAll(line.Worker, " ", "-"))
 		}
 		var out, err strings.Builder
-		status := ctl.Run(context.Background(), words, &out, &err)
+		status := ctl.Run(context.Background(), words, &out, &err, ctl.Knobs{})
 		if want := fmt.Sprintf("%d %s", i+1, line.Reply); recorded.HasRules() && !strings.HasPrefix(out.String(), want) || status == ctl.Failed || status == ctl.Usage {
 			t.Fatalf("%s: status %d, %s%s, and the model answers %s", line.Command, status, out.String(), err.String(), want)
 		}

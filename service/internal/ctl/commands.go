@@ -1,20 +1,16 @@
 package ctl
 
 import (
-	"bufio"
-	"crypto/rand"
-	"encoding/hex"
 	"encoding/json"
-	"errors"
 	"fmt"
 	"io"
-	"net/http"
 	"net/url"
 	"strconv"
 	"strings"
 	"text/tabwriter"
 	"time"
 
+	"lrcman/service/client"
 	"lrcman/service/internal/book"
 )
 
@@ -22,7 +18,23 @@ import (
 func bookPath(book, rest string) string { return "/books/" + url.PathEscape(book) + rest }
 
 func (s *session) get(path string, values url.Values) ([]byte, error) {
-	return s.ask(s.ctx, query{method: "GET", path: path, values: values})
+	answer, err := s.Get(s.ctx, path, values)
+	if err != nil {
+		return nil, err
+	}
+	return answer.Text, nil
+}
+
+// look reads one JSON object.
+func (s *session) look(path string, values url.Values, to interface{}) error {
+	text, err := s.get(path, values)
+	if err != nil {
+		return err
+	}
+	if err := json.Unmarshal(text, to); err != nil {
+		return fmt.Errorf("the answer to %s is not what lrcmand answers: %w", path, err)
+	}
+	return nil
 }
 
 // print writes rows in columns.
@@ -47,23 +59,8 @@ func printable(text string) string {
 	}, text)
 }
 
-type memberStatus struct {
-	ID, Leader, Term, Commit, Applied, Snapshot uint64
-	Age                                         int64 `json:"age_ms"`
-	Members                                     []member
-}
-
-type member struct {
-	ID      uint64 `json:"id"`
-	Peer    string `json:"peer"`
-	Client  string `json:"client"`
-	Leader  bool   `json:"leader"`
-	Learner bool   `json:"learner"`
-	Promote bool   `json:"promote"`
-}
-
 // does is what a member does in its group.
-func (m *member) does() string {
+func does(m client.Member) string {
 	switch {
 	case m.Leader:
 		return "leads"
@@ -75,16 +72,6 @@ func (m *member) does() string {
 	return "votes"
 }
 
-type bookRow struct {
-	Name  string `json:"name"`
-	N     uint64 `json:"n"`
-	Opens uint64 `json:"opens"`
-}
-
-type bookList struct {
-	Books []bookRow `json:"books"`
-}
-
 // table is a table of a book.
 type table struct {
 	N    uint64
@@ -93,37 +80,33 @@ type table struct {
 }
 
 func (s *session) status([]string) error {
-	text, err := s.get("/status", nil)
+	member, err := s.Status(s.ctx)
 	if err != nil {
 		return err
 	}
-	var member memberStatus
-	var list bookList
-	if err := json.Unmarshal(text, &member); err != nil {
-		return fmt.Errorf("the answer to /status is not what lrcmand answers: %w", err)
-	}
-	if err := s.look(s.ctx, "/books", nil, &list); err != nil {
+	list, _, err := s.Books(s.ctx)
+	if err != nil {
 		return err
 	}
 	books := map[string]map[string]interface{}{}
-	for _, row := range list.Books {
+	for _, row := range list {
 		var values table
-		if err := s.look(s.ctx, bookPath(row.Name, "/show/status"), nil, &values); err != nil {
+		if err := s.look(bookPath(row.Name, "/show/status"), nil, &values); err != nil {
 			return err
 		}
 		books[row.Name] = valuesOf(values)
 	}
 	if s.isJSON() {
-		return json.NewEncoder(s.out).Encode(map[string]interface{}{"member": json.RawMessage(text), "books": books})
+		return json.NewEncoder(s.out).Encode(map[string]interface{}{"member": json.RawMessage(member.Raw), "books": books})
 	}
 	leader := "no leader"
 	if member.Leader != 0 {
 		leader = fmt.Sprintf("leader %d", member.Leader)
 	}
-	fmt.Fprintf(s.out, "member %d of %d at %s: %s, term %d, applied %d of %d, looks %d ms old\n", member.ID, len(member.Members), s.servers[0], leader,
-		member.Term, member.Applied, member.Commit, member.Age)
+	fmt.Fprintf(s.out, "member %d of %d at %s: %s, term %d, applied %d of %d, looks %d ms old\n", member.ID, len(member.Members),
+		member.Server, leader, member.Term, member.Applied, member.Commit, member.Age)
 	rows := [][]string{{"BOOK", "HEALTH", "STRIPES", "WHOLE", "MARGIN 2", "1", "0", "UNAVAILABLE", "LOST", "MISSING", "LEASES", "UPGRADING", "ENTRIES"}}
-	for _, row := range list.Books {
+	for _, row := range list {
 		v := books[row.Name]
 		cells := []string{row.Name, healthOf(v)}
 		for _, name := range []string{"stripes", "whole", "at_risk_margin_2", "at_risk_margin_1", "at_risk_margin_0", "unavailable", "lost",
@@ -174,16 +157,15 @@ func textOf(value interface{}) string {
 }
 
 func (s *session) books([]string) error {
-	text, err := s.get("/books", nil)
-	if err != nil || s.isJSON() {
-		return s.showIf(text, err)
+	if s.isJSON() {
+		return s.showIf(s.get("/books", nil))
 	}
-	var list bookList
-	if err := json.Unmarshal(text, &list); err != nil {
-		return fmt.Errorf("the answer to /books is not what lrcmand answers: %w", err)
+	list, _, err := s.Books(s.ctx)
+	if err != nil {
+		return err
 	}
 	rows := [][]string{{"BOOK", "ENTRIES", "OPENED"}}
-	for _, row := range list.Books {
+	for _, row := range list {
 		rows = append(rows, []string{row.Name, fmt.Sprint(row.N), fmt.Sprint(row.Opens)})
 	}
 	return s.print(rows)
@@ -197,31 +179,31 @@ func (s *session) showIf(text []byte, err error) error {
 }
 
 func (s *session) members([]string) error {
-	text, err := s.get("/members", nil)
-	if err != nil || s.isJSON() {
-		return s.showIf(text, err)
+	if s.isJSON() {
+		return s.showIf(s.get("/members", nil))
 	}
-	var list struct{ Members []member }
-	if err := json.Unmarshal(text, &list); err != nil {
-		return fmt.Errorf("the answer to /members is not what lrcmand answers: %w", err)
+	list, err := s.Members(s.ctx)
+	if err != nil {
+		return err
 	}
 	rows := [][]string{{"MEMBER", "FOR MEMBERS", "FOR CLIENTS", "DOES"}}
-	for _, m := range list.Members {
+	for _, m := range list {
 		peer := m.Peer
 		if peer == "" {
 			peer = "-"
 		}
-		rows = append(rows, []string{fmt.Sprint(m.ID), peer, m.Client, m.does()})
+		rows = append(rows, []string{fmt.Sprint(m.ID), peer, m.Client, does(m)})
 	}
 	return s.print(rows)
 }
 
 // lead makes a member the leader, and prints the members once it is.
 func (s *session) lead(words []string) error {
-	if _, err := strconv.ParseUint(words[0], 10, 16); err != nil {
+	id, err := strconv.ParseUint(words[0], 10, 16)
+	if err != nil {
 		return usagef("%q is no number of a member", words[0])
 	}
-	if _, err := s.ask(s.ctx, query{method: "POST", path: "/leader/" + words[0]}); err != nil {
+	if _, err := s.Lead(s.ctx, id); err != nil {
 		return err
 	}
 	return s.members(nil)
@@ -277,76 +259,45 @@ func (s *session) workers(text []byte) error {
 	return s.print(rows)
 }
 
-// An answer is what a call was told.
-type answer struct {
-	N       uint64 `json:"n"`
-	Reply   string `json:"reply"`
-	Kind    string `json:"kind"`
-	Refusal int    `json:"refusal"`
-	Name    string `json:"name"`
-	Holder  string `json:"holder"`
-	Again   bool   `json:"again"`
-}
-
 // make makes one command, once however often it is asked for.
-func (s *session) make(book, command string) (*answer, []byte, error) {
-	key := s.callKey
-	if key == "" {
-		random := make([]byte, 16)
-		if _, err := rand.Read(random); err != nil {
-			return nil, nil, err
-		}
-		key = "ctl-" + hex.EncodeToString(random)
+func (s *session) make(book, command string) (*client.Reply, error) {
+	options := []client.Option{client.WithSession(int(s.session)), client.WithWorker(s.worker)}
+	if s.callKey != "" {
+		options = append(options, client.WithKey(s.callKey, s.callSince))
 	}
-	call := map[string]interface{}{"command": command, "session": s.session, "key": key}
-	if s.worker != "" {
-		call["worker"] = s.worker
-	}
-	body, err := json.Marshal(call)
-	if err != nil {
-		return nil, nil, err
-	}
-	text, err := s.ask(s.ctx, query{method: "POST", path: bookPath(book, "/call"), body: body})
-	if err != nil && s.maybe {
-		return nil, nil, fmt.Errorf("%w; nobody knows whether it was made: ask again with --call-key %s", err, key)
-	} else if err != nil {
-		return nil, nil, err
-	}
-	found := &answer{}
-	if err := json.Unmarshal(text, found); err != nil {
-		return nil, nil, fmt.Errorf("the answer to a call is not what lrcmand answers: %w", err)
-	}
-	return found, text, nil
+	reply, err := s.Call(s.ctx, book, client.Command(command), options...)
+	return reply, sayUnknown(err)
 }
 
-// say is an answer in a line: as `run` prints it, with the words for a refusal.
-func (a *answer) say() string {
+// say is a reply in a line: as `run` prints it, with the words for a refusal, and with the number of its entry if there is one.
+func say(number uint64, reply *client.Reply) string {
 	words := []string{}
-	if a.N > 0 {
-		words = append(words, fmt.Sprint(a.N))
+	if number > 0 {
+		words = append(words, fmt.Sprint(number))
 	}
-	words = append(words, a.Reply)
-	if a.Name != "" {
-		words = append(words, "("+a.Name+")")
+	words = append(words, reply.Line)
+	if reply.Name != "" {
+		words = append(words, "("+reply.Name+")")
 	}
-	if a.Holder != "" {
-		words = append(words, "(worker "+printable(a.Holder)+" holds it)")
+	if reply.Holder != "" {
+		words = append(words, "(worker "+printable(reply.Holder)+" holds it)")
 	}
 	return strings.Join(words, " ")
 }
 
 func (s *session) call(words []string) error {
-	found, text, err := s.make(words[0], strings.Join(words[1:], " "))
+	found, err := s.make(words[0], strings.Join(words[1:], " "))
 	if err != nil {
 		return err
 	}
+	text := found.Raw
 	if !s.isJSON() {
-		text = []byte(found.say())
+		text = []byte(say(found.N, found))
 	}
 	if err := s.show(text); err != nil {
 		return err
 	}
-	if found.Kind == "refused" {
+	if found.Kind == client.Refused {
 		return errRefused
 	}
 	return nil
@@ -424,11 +375,11 @@ func (s *session) drain(words []string) error {
 	if _, err := strconv.ParseUint(node, 10, 16); err != nil {
 		return usagef("%q is no number of a node", node)
 	}
-	found, text, err := s.make(book, "drain "+node)
+	found, err := s.make(book, "drain "+node)
 	if err != nil {
 		return err
 	}
-	isRefused := found.Kind == "refused"
+	isRefused := found.Kind == client.Refused
 	if isRefused && found.Refusal == wrongMode {
 		if row, err := s.node(book, node); err != nil {
 			return err
@@ -437,9 +388,9 @@ func (s *session) drain(words []string) error {
 		}
 	}
 	if s.isJSON() && (isRefused || s.noWait) {
-		err = s.show(text)
+		err = s.show(found.Raw)
 	} else if !s.isJSON() {
-		_, err = fmt.Fprintln(s.out, found.say())
+		_, err = fmt.Fprintln(s.out, say(found.N, found))
 	}
 	if err != nil || s.noWait && !isRefused {
 		return err
@@ -453,7 +404,7 @@ func (s *session) drain(words []string) error {
 // node is the row of a node.
 func (s *session) node(book, node string) (map[string]interface{}, error) {
 	var nodes table
-	if err := s.look(s.ctx, bookPath(book, "/show/nodes"), url.Values{"now": {"1"}}, &nodes); err != nil {
+	if err := s.look(bookPath(book, "/show/nodes"), url.Values{"now": {"1"}}, &nodes); err != nil {
 		return nil, err
 	}
 	for _, row := range nodes.Rows {
@@ -463,9 +414,6 @@ func (s *session) node(book, node string) (map[string]interface{}, error) {
 	}
 	return nil, fmt.Errorf("there is no node %s", node)
 }
-
-// lookEach is how often a node that drains is looked at. (Tests do not wait so long)
-var lookEach = 2 * time.Second
 
 func (s *session) empty(book, node string) error {
 	last := ""
@@ -491,43 +439,29 @@ func (s *session) empty(book, node string) error {
 		select {
 		case <-s.ctx.Done():
 			return s.ctx.Err()
-		case <-time.After(lookEach):
+		case <-time.After(s.knobs.LookEach):
 		}
 	}
 }
 
-// An entry is a line of a log.
-type entry struct {
-	answer
-	Session int    `json:"session"`
-	Command string `json:"command"`
-	Status  int    `json:"status"`
-	Error   string `json:"error"`
-}
-
-// watch follows a log. Where a member breaks off, it goes on with another one, behind the last entry that was shown.
+// watch follows a log, behind the last entry that was shown.
 func (s *session) watch(words []string) error {
 	from, err := s.begin(words[0])
 	if err != nil {
 		return err
 	}
-	for {
-		answer, err := s.open(s.ctx, query{method: "GET", path: bookPath(words[0], "/log"),
-			values: url.Values{"from": {fmt.Sprint(from)}, "follow": {"1"}}})
-		if s.ctx.Err() != nil {
-			return nil
-		} else if err != nil {
-			return err
+	err = s.Follow(s.ctx, words[0], from, func(entry client.Entry) error {
+		text := string(entry.Raw)
+		if !s.isJSON() {
+			text = fmt.Sprintf("%d %d %s: %s", entry.N, entry.Session, entry.Command, say(0, &entry.Reply))
 		}
-		err = s.follow(answer, &from)
-		answer.Body.Close()
-		if s.ctx.Err() != nil {
-			return nil
-		} else if err != nil {
-			return err
-		}
-		time.Sleep(s.pause)
+		_, err := io.WriteString(s.out, text+"\n")
+		return err
+	})
+	if s.ctx.Err() != nil {
+		return nil
 	}
+	return err
 }
 
 func (s *session) begin(book string) (uint64, error) {
@@ -539,54 +473,6 @@ func (s *session) begin(book string) (uint64, error) {
 		return from, nil
 	}
 	var status table
-	err := s.look(s.ctx, bookPath(book, "/show/status"), nil, &status)
+	err := s.look(bookPath(book, "/show/status"), nil, &status)
 	return status.N, err
-}
-
-// mostSilence is how long a stream may be silent; a member sends an empty line each 15 seconds.
-const mostSilence = 45 * time.Second
-
-// follow prints entries until the stream ends. An error is one that another member would not mend.
-func (s *session) follow(answer *http.Response, from *uint64) error {
-	lines := bufio.NewReader(answer.Body)
-	silent := time.AfterFunc(mostSilence, func() { answer.Body.Close() })
-	defer silent.Stop()
-	for {
-		line, err := lines.ReadBytes('\n')
-		silent.Reset(mostSilence)
-		if err != nil {
-			return nil // (the stream ended)
-		}
-		text := strings.TrimSpace(string(line))
-		if text == "" {
-			continue
-		}
-		var one entry
-		if err := json.Unmarshal([]byte(text), &one); err != nil {
-			return fmt.Errorf("a line of the log is not what lrcmand writes: %w", err)
-		}
-		if one.Status != 0 && (&fault{Status: one.Status}).isElsewhere() {
-			return nil
-		} else if one.Status != 0 {
-			return errors.New(one.Error)
-		}
-		if one.N <= *from {
-			continue
-		}
-		*from = one.N
-		if !s.isJSON() {
-			text = fmt.Sprintf("%d %d %s: %s", one.N, one.Session, one.Command, (&answerOf{one.answer}).say())
-		}
-		if _, err := io.WriteString(s.out, text+"\n"); err != nil {
-			return err
-		}
-	}
-}
-
-// answerOf says an answer without its number.
-type answerOf struct{ answer }
-
-func (a *answerOf) say() string {
-	a.N = 0
-	return a.answer.say()
 }

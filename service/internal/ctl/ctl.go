@@ -12,6 +12,8 @@ import (
 	"strings"
 	"syscall"
 	"time"
+
+	"lrcman/service/client"
 )
 
 // The statuses that ctl ends with.
@@ -25,7 +27,7 @@ const (
 
 type options struct {
 	server, tokenFile, ca, cert, key, output string
-	session                                  uint64
+	session, callSince                       uint64
 	worker, callKey                          string
 	from                                     string
 	now, noWait                              bool
@@ -77,25 +79,34 @@ func init() {
 		"drain": {2, 2, (*session).drain}, "watch": {1, 1, (*session).watch}, "lead": {1, 1, (*session).lead}}
 }
 
+// Knobs are what tests do otherwise. Those that are zero change nothing.
+type Knobs struct {
+	Attempt  time.Duration // how long a member may take to answer
+	LookEach time.Duration // how often a node that drains is looked at
+}
+
 // A session is one run of ctl.
 type session struct {
-	*client
+	*client.Client
 	*options
-	ctx context.Context
-	out io.Writer
-	err io.Writer
+	knobs Knobs
+	ctx   context.Context
+	out   io.Writer
 }
 
 // Main runs `lrcmand ctl` with these words and returns the status.
 func Main(words []string, out, err io.Writer) int {
 	ctx, stop := signal.NotifyContext(context.Background(), os.Interrupt, syscall.SIGTERM)
 	defer stop()
-	return Run(ctx, words, out, err)
+	return Run(ctx, words, out, err, Knobs{})
 }
 
 // Run is Main, and ends with a context too.
-func Run(ctx context.Context, words []string, out, to io.Writer) int {
-	err := run(ctx, words, out, to)
+func Run(ctx context.Context, words []string, out, to io.Writer, knobs Knobs) int {
+	if knobs.LookEach == 0 {
+		knobs.LookEach = 2 * time.Second
+	}
+	err := run(ctx, words, out, knobs)
 	var ofUsage usageError
 	switch {
 	case err == nil:
@@ -114,7 +125,7 @@ func Run(ctx context.Context, words []string, out, to io.Writer) int {
 	return Failed
 }
 
-func run(ctx context.Context, words []string, out, to io.Writer) error {
+func run(ctx context.Context, words []string, out io.Writer, knobs Knobs) error {
 	o := &options{}
 	rest, err := o.parse(words, out)
 	if err != nil {
@@ -131,11 +142,12 @@ func run(ctx context.Context, words []string, out, to io.Writer) error {
 	if len(given) < found.least || found.most >= 0 && len(given) > found.most {
 		return usagef("%s takes another number of words", rest[0])
 	}
-	c, err := newClient(o)
+	c, err := newClient(o, knobs)
 	if err != nil {
 		return err
 	}
-	return found.run(&session{c, o, ctx, out, to}, given)
+	defer c.Close()
+	return found.run(&session{c, o, knobs, ctx, out}, given)
 }
 
 // parse takes the options out of the words, wherever they stand, and returns the others.
@@ -155,6 +167,7 @@ func (o *options) parse(words []string, out io.Writer) ([]string, error) {
 	flags.Uint64Var(&o.session, "session", 1, "`N` of the session of calls, 1 to 8")
 	flags.StringVar(&o.worker, "worker", "", "`NAME` of the worker who calls")
 	flags.StringVar(&o.callKey, "call-key", "", "`KEY` of the call; by default a random one")
+	flags.Uint64Var(&o.callSince, "call-since", 0, "`N` that was told with the key, if the call was asked for before")
 	flags.StringVar(&o.from, "from", "", "`N`: watch shows the entries behind this number; by default those to come")
 	flags.BoolVar(&o.now, "now", false, "tables have all that was told before; ok-to-stop always has")
 	flags.BoolVar(&o.noWait, "no-wait", false, "drain does not wait until the node is empty")
@@ -179,6 +192,9 @@ func (o *options) parse(words []string, out io.Writer) ([]string, error) {
 	}
 	if o.session < 1 || o.session > 8 {
 		return nil, usagef("--session is 1 to 8")
+	}
+	if o.callSince > 0 && o.callKey == "" {
+		return nil, usagef("--call-since takes --call-key")
 	}
 	return rest, nil
 }

@@ -127,18 +127,20 @@ func newService(t *testing.T) (*service, string) {
 	return s, server.URL
 }
 
+// quick are the knobs of tests: they do not wait as long as people do.
+var quick = Knobs{Attempt: time.Second, LookEach: 10 * time.Millisecond}
+
 // ctl runs a line and returns its status, and what it wrote.
 func ctl(t *testing.T, words ...string) (status int, out, err string) {
 	t.Helper()
 	ctx, cancel := context.WithTimeout(context.Background(), 20*time.Second)
 	defer cancel()
 	var to, other strings.Builder
-	status = Run(ctx, words, &to, &other)
+	status = Run(ctx, words, &to, &other, quick)
 	return status, to.String(), other.String()
 }
 
 func TestEachCommandHasItsStatusAndWords(t *testing.T) {
-	lookEach = 10 * time.Millisecond
 	for _, it := range []struct {
 		words  string
 		status int
@@ -178,6 +180,8 @@ func TestEachCommandHasItsStatusAndWords(t *testing.T) {
 		{"books --servers x", 2, nil, "not defined: -servers"},
 		{"call p0 tick --session 9", 2, nil, "--session is 1 to 8"},
 		{"books --cert x", 2, nil, "--cert and --key come together"},
+		{"books --server ftp://h1", 2, nil, "--server: a server is http://HOST:PORT"},
+		{"call p0 tick --call-since 5", 2, nil, "--call-since takes --call-key"},
 		{"books --token-file /nowhere", 1, nil, "no such file"},
 		{"watch p0 --from x", 2, nil, "--from takes a number"},
 	} {
@@ -217,7 +221,7 @@ func TestACallIsMadeOnceHoweverOftenItIsAsked(t *testing.T) {
 	if status != 0 || out != "18 ticked 1 0\n" {
 		t.Fatalf("status %d, %s, %s", status, out, err)
 	}
-	if len(s.calls) != 3 || len(s.keys) != 1 || len(fmt.Sprint(s.calls[0]["key"])) != 36 {
+	if len(s.calls) != 3 || len(s.keys) != 1 || len(fmt.Sprint(s.calls[0]["key"])) != 32 {
 		t.Errorf("calls %v", s.calls)
 	}
 	if s.calls[0]["worker"] != "w7" || s.calls[0]["session"] != 3.0 || s.calls[0]["command"] != "tick" {
@@ -235,12 +239,15 @@ func TestAKeyIsToldWhereNobodyKnows(t *testing.T) {
 	if status != 1 || !strings.Contains(err, "nobody knows whether it was made: ask again with --call-key "+fmt.Sprint(s.calls[0]["key"])) {
 		t.Errorf("status %d, %s", status, err)
 	}
+	if since := fmt.Sprintf("--call-since %v", s.calls[0]["since"]); !strings.Contains(err, since) || since != "--call-since 89" {
+		t.Errorf("the error lacks %s: %s", since, err)
+	}
 	status, _, err = ctl(t, "call", "p0", "tick", "--server", "127.0.0.1:9", "--timeout", "100ms")
 	if status != 1 || strings.Contains(err, "nobody knows") || !strings.Contains(err, "http://127.0.0.1:9 does not answer") {
 		t.Errorf("of one who does not run: status %d, %s", status, err)
 	}
-	status, _, err = ctl(t, "call", "p0", "tick", "--server", address, "--call-key", "mine", "--timeout", "100ms")
-	if status != 1 || s.calls[len(s.calls)-1]["key"] != "mine" {
+	status, _, err = ctl(t, "call", "p0", "tick", "--server", address, "--call-key", "mine", "--call-since", "70", "--timeout", "100ms")
+	if last := s.calls[len(s.calls)-1]; status != 1 || last["key"] != "mine" || last["since"] != 70.0 {
 		t.Errorf("status %d, %s, %v", status, err, s.calls)
 	}
 }
@@ -267,11 +274,13 @@ func TestAnotherMemberIsAsked(t *testing.T) {
 }
 
 func TestAMemberThatHangsIsPassedOver(t *testing.T) {
-	before := answerTime
-	answerTime = time.Second
-	defer func() { answerTime = before }()
 	end := make(chan struct{})
-	hanging := httptest.NewServer(http.HandlerFunc(func(http.ResponseWriter, *http.Request) { <-end }))
+	hanging := httptest.NewServer(http.HandlerFunc(func(w http.ResponseWriter, r *http.Request) {
+		if r.URL.Path != "/status" {
+			<-end
+		}
+		io.WriteString(w, `{"applied":7}`)
+	}))
 	defer hanging.Close()
 	defer close(end)
 	s, address := newService(t)
@@ -384,7 +393,7 @@ func TestWatchGoesOnBehindTheLastEntry(t *testing.T) {
 	}()
 	out := &writer{lines: 100, end: end}
 	var err strings.Builder
-	status := Run(ctx, []string{"watch", "p0", "--server", address}, out, &err)
+	status := Run(ctx, []string{"watch", "p0", "--server", address}, out, &err, quick)
 	want := "18 2 lease 1 3: refused 110 1 (already leased)\n19 1 tick: ticked 1 0\n"
 	if status != 0 || out.String() != want {
 		t.Errorf("status %d, %s, %s", status, out.String(), err.String())

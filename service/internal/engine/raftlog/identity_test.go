@@ -552,7 +552,7 @@ func TestRemovedNumbersAreKnownAfterARestartFromASnapshot(t *testing.T) {
 	proposeAll(t, g.nodes[g.leader()], texts(2, 200))
 	for _, id := range g.up() {
 		n := g.nodes[id]
-		if err := n.Snapshot(); err != nil {
+		if err := n.Snapshot(context.Background()); err != nil {
 			t.Fatal(err)
 		}
 		eventually(t, "the log is cut", func() bool { return n.Status().First > 50 })

@@ -1,0 +1,351 @@
+"""The clients of Go and of Python: over a fake group that does what goes wrong, and over three members that are killed and cut
+off."""
+import json
+import os
+import random
+import re
+import subprocess
+import sys
+import threading
+import time
+from collections import Counter
+
+import rules
+from cluster import Asker, Group, Member
+from fake_group import FAULTS, NOTHING, FakeGroup
+from harness import topology_of
+from network import Network, ways_between
+from one_member import wait_ready
+
+HERE = os.path.dirname(os.path.abspath(__file__))
+sys.path.append(os.path.join(os.path.dirname(HERE), "client"))
+from lrcmand_client import Client, KeyForgotten, LrcmandError, OutcomeUnknown  # noqa: E402
+
+
+def outcome_of(client, command="tick", **how):
+    """What came of a call: a word, and the reply or the error."""
+    try:
+        return "told", client.call("p0", command, **how)
+    except OutcomeUnknown as why:
+        return "unknown", why
+    except KeyForgotten as why:
+        return "forgotten", why
+    except LrcmandError as why:
+        return "nothing made", why
+
+
+# How often a call may have been made, by what its caller was told.
+RIGHT = {"told": {1}, "unknown": {0, 1}, "forgotten": {0, 1}, "nothing made": {0}}
+
+
+def expect(count, name, group, word, told):
+    """One call was made as often as its caller may believe, and with one key."""
+    with group.book.lock:
+        group.book.make_late()
+        keys = {key for key, _ in group.book.tries}
+        made = sum(group.book.made.get(key, 0) for key in keys)
+        tries = list(group.book.tries)
+        group.book.tries.clear()
+    is_right = made in RIGHT[word] and len(keys) <= 1 and not group.book.ahead
+    count.check(f"{name}: {word} {told}, made {made} times in {tries}, ahead {group.book.ahead}", is_right)
+
+
+def test_chances(count, turns=60):
+    """By faults in each order, beside calls of others of which the group forgets all but the last few."""
+    dice, words = random.Random(71), set()
+    for turn in range(turns):
+        with FakeGroup(dice.randint(1, 3), 8) as group:
+            for member in group.members:
+                member.faults, member.others = dice.choices(FAULTS, k=dice.randrange(4)), dice.randrange(8)
+            client = Client(group.servers(), timeout=0.5, attempt=0.05, pause=0.001)
+            for _ in range(2):
+                word, told = outcome_of(client)
+                words.add(word)
+                expect(count, f"turn {turn}", group, word, told)
+    count.check(f"calls are told, and keys forgotten: {words}", {"told", "forgotten"} <= words)
+
+
+def test_each_fault(count):
+    """Another member is asked behind each fault; and where there is none, it is told as what it is and goes on by its key."""
+    for fault in FAULTS:
+        with FakeGroup(2, 100) as group:
+            group.members[0].faults = [fault]
+            word, told = outcome_of(Client(group.servers(), timeout=10, attempt=0.1, pause=0.001))
+            count.check(f"{fault}: {word} {told}", word == "told" and set(group.book.made.values()) == {1})
+        with FakeGroup(1, 100) as group:
+            member, client = group.members[0], Client(group.servers(), timeout=0.1, attempt=0.05, pause=0.001)
+            member.faults = [fault] * 1000
+            word, why = outcome_of(client)
+            count.check(f"{fault} alone: {word} {why}", word == ("nothing made" if fault in NOTHING else "unknown"))
+            if word == "unknown":
+                member.faults = []
+                client.timeout = 10
+                word, told = outcome_of(client, key=why.key, since=why.since)
+                made = group.book.made
+                count.check(f"{fault}, later again: {word} {told}", (word, made, told["n"]) == ("told", {why.key: 1}, 1))
+
+
+def test_forgotten_keys(count):
+    """A since that is too old is renewed where no try may have been made, and else nobody can know."""
+    cases = [([], {}, "told"), (["503", "429"], {}, "told"), (["504 never"], {}, "forgotten"), (["cut before"], {}, "forgotten"),
+             ([], {"key": "mine"}, "told"), ([], {"key": "mine", "since": 6}, "forgotten")]
+    for faults, how, right in cases:
+        with FakeGroup(1, 4) as group:
+            client = Client(group.servers(), timeout=10, pause=0.001)
+            client.index()
+            group.members[0].faults = list(faults)
+            group.book.others(20)
+            word, told = outcome_of(client, **how)
+            count.check(f"{faults} {how}: {word} {told}", word == right)
+            expect(count, f"{faults} {how}", group, word, told)
+
+
+def test_rests(count):
+    """A member is left alone as long as it wants."""
+    with FakeGroup(1, 100) as group:
+        group.members[0].faults, group.members[0].head = ["429"], [("Retry-After", "1")]
+        begun = time.monotonic()
+        word, _ = outcome_of(Client(group.servers(), timeout=10, pause=0.001))
+        count.check("a member is left alone for a second", word == "told" and time.monotonic() - begun >= 1)
+        client = Client(group.servers(), timeout=0.05, pause=0.01)
+        client.index()
+        client.close()
+    count.check("a member that ends", outcome_of(client)[0] == "nothing made")
+    nobody = Client(["127.0.0.1:9"], timeout=0.05, pause=0.01)
+    count.check("nobody listens", outcome_of(nobody)[0] == "nothing made")
+    count.check("nobody listens, and it was sent before", outcome_of(nobody, key="mine", since=6)[0] == "unknown")
+    for text in ("", "ftp://h1", "http://h1/books", "http://u@h1"):
+        try:
+            Client([text])
+        except ValueError:
+            continue
+        count.check(f"{text!r} is taken for a server", False)
+
+
+def test_python_client(count):
+    test_each_fault(count)
+    test_forgotten_keys(count)
+    test_rests(count)
+    test_chances(count)
+
+
+# Over three members.
+
+WORDS = ["--election", "500ms", "--snapshot-every", "3000", "--trailing", "500", "--tick", "0", "--timeout", "2s"]
+KEYS = 4096  # that a book keeps
+BOOK = "p0"
+
+
+class GoCaller:
+    """A process of harness/caller."""
+
+    def __init__(self, program, ports, *words):
+        servers = ",".join(f"127.0.0.1:{port}" for port in ports)
+        words = [program, "--servers", servers, "--book", BOOK, *map(str, words)]
+        self.process = subprocess.Popen(words, stdin=subprocess.PIPE, stdout=subprocess.PIPE, stderr=subprocess.PIPE, text=True)
+
+    def end(self):
+        """What its calls came to, once all are over."""
+        out, err = self.process.communicate(timeout=90)
+        if self.process.returncode:
+            raise RuntimeError(f"caller ended with {self.process.returncode}: {err}")
+        return [json.loads(line) for line in out.splitlines()]
+
+
+class PythonCaller(threading.Thread):
+    """Makes one call after the other by the client of Python, and asks again by its key until it is told."""
+
+    def __init__(self, ports, first):
+        super().__init__(daemon=True)
+        self.client = Client([f"127.0.0.1:{port}" for port in ports], attempt=1, pause=0.02)
+        self.first, self.is_over, self.told = first, threading.Event(), []
+
+    def run(self):
+        number = self.first
+        while not self.is_over.is_set():
+            number += 1
+            self.told.append(call_until_told(self.client, f"done {number % 4096} 3 {number}"))
+
+
+def call_until_told(client, command, **how):
+    found = {"command": command, "outcome": "told", "n": 0, "again": False}
+    while True:
+        try:
+            told = client.call(BOOK, command, **how)
+            return {**found, "n": told["n"], "again": told.get("again", False)}
+        except OutcomeUnknown as why:
+            how = {"key": why.key, "since": why.since}
+        except KeyForgotten as why:
+            return {**found, "outcome": "forgotten", "error": str(why)}
+        except LrcmandError as why:
+            return {**found, "outcome": "nothing made", "error": str(why)}
+
+
+class Follower(threading.Thread):
+    """Follows the log of the book by the client of Python, from its first entry on."""
+
+    def __init__(self, ports):
+        super().__init__(daemon=True)
+        self.client = Client([f"127.0.0.1:{port}" for port in ports], timeout=60, pause=0.02)
+        self.entries, self.until, self.fault = [], None, None
+
+    def run(self):
+        try:
+            for entry in self.client.follow(BOOK):
+                self.entries.append(entry["command"])
+                if entry["command"] == self.until:
+                    return
+        except LrcmandError as why:
+            self.fault = why
+
+
+def judge_calls(count, told, log):
+    """Each call that was told is an entry once, at its number, and what was told to be nothing is none."""
+    times, taken = Counter(log), Counter(it["n"] for it in told if it["outcome"] == "told")
+    ticks = {word: sum(it["command"] == "tick" and it["outcome"] == word for it in told) for word in ("told", "forgotten")}
+    wrong = [f"{times['tick']} ticks, and {ticks}"] if not 0 <= times["tick"] - ticks["told"] <= ticks["forgotten"] else []
+    for it in told:
+        is_entry = it["outcome"] != "told" or log[it["n"] - 1] == it["command"] and taken[it["n"]] == 1
+        if not is_entry or it["command"] != "tick" and times[it["command"]] not in RIGHT[it["outcome"]]:
+            wrong.append(f"{it}, and it stands {times[it['command']]} times in the log")
+    count.add(len(told) - len(wrong), wrong)
+
+
+class Clients:
+    """Callers of both languages over a group, and what they were told."""
+
+    def __init__(self, group, caller):
+        self.group, self.caller, ports = group, caller, group.ports()
+        self.follower = Follower(ports)
+        self.follower.start()
+        self.of_go = GoCaller(caller, ports, "--callers", 4, "--first", 10**6)
+        self.of_python = [PythonCaller(ports[it:] + ports[:it], (it + 2) * 10**6) for it in range(3)]
+        self.told = []
+        for it in self.of_python:
+            it.start()
+
+    def fill(self, numbers):
+        """So many further calls with keys, that a book forgets all that were made before, by the members of these numbers."""
+        ports = [self.group.members[number].front for number in numbers]
+        self.told += GoCaller(self.caller, ports, "--callers", 32, "--ticks", "--calls", KEYS + 200, "--attempt", "3s").end()
+
+    def end(self):
+        for it in self.of_python:
+            it.is_over.set()
+        self.of_go.process.stdin.close()
+        self.of_go.process.stdin = None
+        self.told += self.of_go.end()
+        for it in self.of_python:
+            it.join(90)
+            self.told += it.told
+        self.follower.until = "done 1 1 1"
+        self.told.append(call_until_told(self.of_python[0].client, self.follower.until))
+        self.follower.join(90)
+
+
+def cut_off(count, clients, network):
+    """A member is cut off while it is asked, and all keys of that time are forgotten. Then its links go on with what it had
+    sent."""
+    group = clients.group
+    leader = group.leader()
+    alone, other = (number for number in group.members if number != leader)
+    client = Client([f"127.0.0.1:{group.members[alone].client}"], timeout=1, attempt=1, pause=0.02)
+    client.index()
+    network.block(*ways_between(alone, group.members))
+    command = f"done {alone} 2 1"
+    word, why = outcome_of(client, command)
+    count.check(f"a member that is cut off: {word} {why}", word == "unknown")
+    clients.fill([leader, other])
+    network.calm()
+    further = Client([f"127.0.0.1:{port}" for port in group.ports()], attempt=3, pause=0.02)
+    if word == "unknown":
+        told = call_until_told(further, command, key=why.key, since=why.since)
+        count.check(f"its key is forgotten: {told}", told["outcome"] == "forgotten")
+        clients.told.append(told)
+
+
+def kill_leader(count, clients):
+    """The leader is killed, and a bookful of keys later it comes back."""
+    group = clients.group
+    number = group.leader()
+    group.members[number].kill()
+    clients.fill([it for it in group.members if it != number])
+    group.start(group.members[number])
+
+
+def break_answers(clients, network):
+    """Answers break off, until a call is told by a later try than the one that made it."""
+    end = time.monotonic() + 20
+    before = [len(it.told) for it in clients.of_python]
+    network.break_rate = 0.05
+    while time.monotonic() < end and not any(it["again"] for one, at in zip(clients.of_python, before) for it in one.told[at:]):
+        time.sleep(0.05)
+    network.calm()
+
+
+def test_clients(count, program, caller, room, nodes):
+    group = Group(program, f"{room}/clients", 3, WORDS)
+    with Network(group, 7) as network, group:
+        group.leader()
+        Client([f"127.0.0.1:{port}" for port in group.ports()]).create(BOOK, topology_of(nodes))
+        clients = Clients(group, caller)
+        cut_off(count, clients, network)
+        kill_leader(count, clients)
+        break_answers(clients, network)
+        clients.end()
+        log, fault = clients.follower.entries, clients.follower.fault
+        if count.check(f"the log is followed to its end: {fault}", fault is None and not clients.follower.is_alive()):
+            judge_calls(count, clients.told, log)
+        words, again = Counter(it["outcome"] for it in clients.told), sum(it["again"] for it in clients.told)
+        print(f"clients: {dict(words)}, {again} of them by a later try, {len(log)} entries", flush=True)
+        count.check(f"calls are told, some by a later try: {words}, {again}", words["told"] > 2 * KEYS and again > 0)
+
+
+# The examples of docs/SERVICE.md.
+
+
+def examples():
+    """The examples of the section of clients, by language."""
+    with open(os.path.join(os.path.dirname(os.path.dirname(HERE)), "docs/SERVICE.md"), encoding="utf-8") as file:
+        part = file.read().split("\n## Clients\n")[1].split("\n## ")[0]
+    return dict(re.findall(r"^```(\w+)\n(.*?)^```$", part, re.DOTALL | re.MULTILINE))
+
+
+def run_example(count, library, room, language, text, env):
+    """Runs an example as it stands; returns its lines."""
+    folder = f"{room}/example-{language}"
+    os.makedirs(folder)
+    for name, content in (("nodes.toml", env.pop("NODES")), (f"main.{language[:2]}", text)):
+        with open(f"{folder}/{name}", "w", encoding="utf-8") as file:
+            file.write(content)
+    program = f"{folder}/example"
+    if language == "go":
+        count.run("the example of Go", os.path.join(os.path.dirname(HERE), "go"), "--library", library, "build", "-o", program,
+                  f"{folder}/main.go")
+    words = [program] if language == "go" else [sys.executable, "main.py"]
+    env = {**os.environ, **env, "PYTHONPATH": os.path.join(os.path.dirname(HERE), "client"), "PYTHONDONTWRITEBYTECODE": "1"}
+    return (count.run(f"the example of {language}", *words, cwd=folder, env=env) or "").splitlines()
+
+
+# A wide stripe finds its sixteen racks.
+ROOMY = {number: rules.Node(number % 18, number % 12, 6) for number in range(36)}
+
+
+def test_examples(count, program, library, room):
+    """Each prints what the model replies."""
+    group = Group(program, f"{room}/examples", 0)
+    member = Member(group, 1, [])
+    try:
+        member.start()
+        wait_ready(Asker(5), member)
+        found = examples()
+        count.check(f"there is an example of each language: {list(found)}", set(found) == {"go", "python"})
+        right = rules.Store(ROOMY).call(1, "place 17")
+        for language, text in found.items():
+            env = {"LRCMAND_SERVER": f"http://127.0.0.1:{member.client}", "NODES": topology_of(ROOMY)}
+            lines = run_example(count, library, room, language, text, env)
+            seats = [tuple(map(int, it.split(":"))) for it in right.split()[1:]]
+            homes = str(seats) if language == "python" else "[" + " ".join(f"{node}:{slot}" for node, slot in seats) + "]"
+            count.check(f"{language}: {lines}", lines == [f"1 placed {homes}", f"1 place 17 {right}"])
+    finally:
+        member.kill()
