@@ -1,8 +1,11 @@
 """Runs clients over a group whose members are killed, stopped, woken, added and removed, and judges what they were told."""
+import os
 import random
 import time
 
+from certificates import Authority, NoOpenssl
 from cluster import Group
+from makers import Maker
 from work import Run, Work, make_books
 
 
@@ -71,13 +74,38 @@ class Chaos:
             self.back(number)
 
 
-def chaos(program, folder, nodes, topology, seconds, seed, env=None, is_quiet=False, callers=8, lookers=2):
+TOKEN = "a-token-of-the-tests"
+
+
+def guarded(folder):
+    """The words of members whom clients show a token, and who show each other certificates where there is openssl."""
+    os.makedirs(folder, exist_ok=True)
+    tokens = os.path.join(folder, "tokens")
+    with open(os.open(tokens, os.O_WRONLY | os.O_CREAT, 0o600), "w", encoding="utf-8") as file:
+        file.write(f"operate {TOKEN}\n")
+    words = ["--token-file", tokens]
+    try:
+        authority = Authority(os.path.join(folder, "certificates"))
+    except NoOpenssl as why:
+        print(f"left out: certificates of members: {why}", flush=True)
+        return [*words, "--trust-network"]
+    certificate, key = authority.sign("member")
+    return [*words, "--peer-cert", certificate, "--peer-key", key, "--peer-ca", authority.ca]
+
+
+def other_nodes(topology):
+    """The nodes with one slot more of each."""
+    return topology.replace("slots = ", "slots = 1")
+
+
+def chaos(program, folder, nodes, topology, seconds, seed, env=None, is_quiet=False, callers=8, lookers=8):
     """One run. With is_quiet nothing happens to the members."""
     run = Run()
-    words = ["--election", "400ms", "--snapshot-every", "150", "--trailing", "20", "--tick", "0"]
-    with Group(program, folder, 3, words, env) as group:
+    words = ["--election", "400ms", "--snapshot-every", "150", "--trailing", "20", "--tick", "2", *guarded(f"{folder}-secrets")]
+    with Group(program, folder, 3, words, env, TOKEN) as group:
         make_books(group, topology)
-        work = Work(group, nodes, callers, lookers)
+        makers = [] if is_quiet else [Maker(group, number, [topology, other_nodes(topology)]) for number in (1, 2)]
+        work = Work(group, nodes, callers, lookers, beside=makers, ticks=True)
         work.begin()
         acts, end = Chaos(group, seed), time.monotonic() + seconds
         while work.goes_on(end):

@@ -36,6 +36,10 @@ class Client(threading.Thread):
     def port(self):
         return self.random.choice(self.group.ports())
 
+    @staticmethod
+    def now():
+        return time.monotonic()
+
 
 class Caller(Client):
     """A worker: it makes one call after the other, each with a key, and asks any member again until it is told."""
@@ -49,7 +53,7 @@ class Caller(Client):
         self.mine = None
 
     def work(self):
-        asker = Asker(2)
+        asker = Asker(2, self.group.token)
         self.mine = self.port()
         while not self.is_over.is_set():
             book = self.random.choice(self.books)
@@ -69,16 +73,27 @@ class Caller(Client):
         words += [f"{word} {self.random.randrange(10)}" for word in ("upgrade", "upgraded")]
         return self.random.choice(words)
 
+    def since(self, asker):
+        """The place in the log from which the next call may stand in it."""
+        while not asker.index and not self.gives_up:
+            status, told = asker.json(self.port(), "GET", "/status")
+            asker.index = told["applied"] if status == 200 else 0
+        return asker.index
+
     def call(self, asker, book, command):
         self.asked += 1
         key, begun = f"{self.number}-{self.asked}", time.monotonic()
-        body = {"session": self.session, "command": command, "key": key, "worker": self.worker}
+        body = {"session": self.session, "command": command, "key": key, "worker": self.worker, "since": self.since(asker)}
+        is_unknown = False  # whether a try had no answer that tells how it ended
         while True:  # (also after the end: what was asked has to be told)
             status, told = asker.json(self.mine, "POST", f"/books/{book}/call", body)
             if status == 200:
                 break
-            if 400 <= status < 500:
+            if status == 409 and told.get("code") == "key_forgotten" and not is_unknown:
+                body["since"] = asker.index  # (nothing was made of any try)
+            elif 400 <= status < 500 and status != 429:
                 raise RuntimeError(f"{command} in {book}: {told}")
+            is_unknown = is_unknown or status in (0, 504)
             self.mine = self.port()
             time.sleep(0.01)
             if self.gives_up:
@@ -92,23 +107,47 @@ class Caller(Client):
         self.told.append(Told(self.number, book, key, self.session, self.worker, command, *answer, begun, time.monotonic()))
 
 
+# The looks at a book, by their paths below it.
+LOOKS = ["", "/show/leases", "/show/stripes", "/show/nodes", "/show/work", "/show/stripes?format=csv", "/image", "/nodes", "/workers",
+         "/peek?command=next", "/may-stop?node=3", "/may-lose?fault=2"]
+
+
 class Looker(Client):
-    """Looks at any member, in turn as of now and as old as may be."""
+    """Looks at any member without a pause, by every route, in turn as of now and as old as may be."""
 
     def __init__(self, group, number, books):
         super().__init__(group, f"looker {number}")
         self.books, self.looks, self.failed = books, [], 0
 
     def work(self):
-        asker, is_now = Asker(8), False
+        asker, is_now = Asker(8, self.group.token), False
         while not self.is_over.is_set():
-            is_now, book, asked = not is_now, self.random.choice(self.books), time.monotonic()
-            status, told = asker.json(self.port(), "GET", f"/books/{book}/show/leases{'?now=1' if is_now else ''}")
-            if status == 200 and (is_now or told["age_ms"] >= 0):
-                self.looks.append(Look(book, told["n"], None if is_now else told["age_ms"] / 1000, asked))
-            else:
+            is_now = not is_now
+            if not (self.look_at_all(asker, is_now) if self.random.random() < 0.1 else self.look(asker, is_now)):
                 self.failed += 1
                 time.sleep(0.02)
+
+    def look(self, asker, is_now):
+        """A look at one book, whose headers tell how new it is."""
+        book, path, asked = self.random.choice(self.books), self.random.choice(LOOKS), time.monotonic()
+        now = f"{'&' if '?' in path else '?'}now=1" if is_now else ""
+        status, headers, _ = asker.ask(self.port(), "GET", f"/books/{book}{path}{now}")
+        if status != 200:
+            return False
+        self.note(book, int(headers["Lrcmand-Entries"]), int(headers["Lrcmand-Age-Ms"]), is_now, asked)
+        return True
+
+    def look_at_all(self, asker, is_now):
+        """A look at the list of books."""
+        asked = time.monotonic()
+        status, told = asker.json(self.port(), "GET", f"/books{'?now=1' if is_now else ''}")
+        for row in told.get("books", ()) if status == 200 else ():
+            self.note(row["name"], row["n"], told["age_ms"], is_now, asked)
+        return status == 200
+
+    def note(self, book, n, age, is_now, asked):
+        if is_now or age >= 0:
+            self.looks.append(Look(book, n, None if is_now else age / 1000, asked))
 
 
 class Reader(Client):
@@ -128,7 +167,8 @@ class Reader(Client):
         while not self.is_done() and not self.is_over.is_set():
             connection = http.client.HTTPConnection("127.0.0.1", self.port(), timeout=1.5)
             try:
-                connection.request("GET", f"/books/{self.book}/log?follow=1&from={len(self.entries)}")
+                headers = Asker(0, self.group.token).headers
+                connection.request("GET", f"/books/{self.book}/log?follow=1&from={len(self.entries)}", headers=headers)
                 answer = connection.getresponse()
                 if answer.status == 410:
                     self.pass_over(json.loads(answer.read())["before"])

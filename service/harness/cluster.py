@@ -28,10 +28,12 @@ def free_port():
 
 
 class Asker:
-    """A client with one connection, which is made anew after a fault and for another member."""
+    """A client with one connection, which is made anew after a fault and for another member. `index` is the last entry of the
+    log that it has heard of."""
 
-    def __init__(self, limit):
-        self.limit, self.port, self.connection = limit, None, None
+    def __init__(self, limit, token=None):
+        self.limit, self.port, self.connection, self.index = limit, None, None, 0
+        self.headers = {"Authorization": f"Bearer {token}"} if token else {}
 
     def ask(self, port, method, path, body=None, headers=None):
         """The status, the headers and the text of an answer. Status 0: there is none."""
@@ -40,10 +42,11 @@ class Asker:
         try:
             if self.connection is None:
                 self.connection, self.port = http.client.HTTPConnection("127.0.0.1", port, timeout=self.limit), port
-            self.connection.request(method, path, body, headers or {})
+            self.connection.request(method, path, body, {**self.headers, **(headers or {})})
             answer = self.connection.getresponse()
             if answer.length is None and not answer.chunked:
                 raise http.client.IncompleteRead(b"")  # (it broke off within its head)
+            self.index = max(self.index, int(answer.headers.get("Lrcmand-Index", 0)))
             return answer.status, answer.headers, answer.read()
         except (OSError, http.client.HTTPException):
             self.close()
@@ -56,8 +59,13 @@ class Asker:
 
     def json(self, port, method, path, value=None):
         """The status and the object of an answer."""
-        body = None if value is None else json.dumps(value)
-        status, _, text = self.ask(port, method, path, body, {} if method == "GET" else {"Content-Type": "application/json"})
+        return self.send(port, method, path, value)
+
+    def send(self, port, method, path, value=None, headers=None):
+        """The same for a body that may be a text of another type."""
+        text = json.dumps(value) if isinstance(value, dict) else value
+        headers = headers or ({} if method == "GET" else {"Content-Type": "application/json"})
+        status, _, text = self.ask(port, method, path, text, headers)
         return status, json.loads(text) if text and status else {}
 
 
@@ -110,10 +118,10 @@ class Member:
 
 
 class Group:
-    """The members of a group. Members by number; one that was removed is in `gone`."""
+    """The members of a group. Members by number; one that was removed is in `gone`. With a token, each request shows it."""
 
-    def __init__(self, program, folder, size, words=(), env=None):
-        self.program, self.folder, self.env = program, folder, env or {}
+    def __init__(self, program, folder, size, words=(), env=None, token=None):
+        self.program, self.folder, self.env, self.token = program, folder, env or {}, token
         shutil.rmtree(folder, ignore_errors=True)
         os.makedirs(folder)
         self.members, self.gone, self.learners, self.words = {}, {}, set(), list(words)
@@ -121,7 +129,7 @@ class Group:
             self.members[number] = Member(self, number, self.words)
             self.members[number].is_first = True
         self.renew_first()
-        self.asker = Asker(3)
+        self.asker = Asker(3, token)
 
     def renew_first(self):
         """The list of the first members, with the addresses at which they are reached."""

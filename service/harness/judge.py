@@ -3,14 +3,16 @@ from bisect import bisect_left
 from collections import defaultdict
 
 import rules
+from unkeyed import is_unkeyed
 
 
-def judge(nodes, logs, told, looks):
-    """The faults of a run, as lines, and how many things were asked. `logs` are the entries of each book, from its first on."""
+def judge(nodes, logs, told, looks, ticks=False):
+    """The faults of a run, as lines, and how many things were asked. `logs` are the entries of each book, from its first on. With
+    ticks the leader ticks by itself."""
     faults = []
     for book, log in logs.items():
         faults += model_faults(nodes, book, log)
-        faults += told_faults(book, log, [it for it in told if it.book == book])
+        faults += told_faults(book, log, [it for it in told if it.book == book], ticks)
     faults += [*order_faults(told), *look_faults(told, looks), *holder_faults(told)]
     return faults
 
@@ -27,8 +29,9 @@ def model_faults(nodes, book, log):
     return []
 
 
-def told_faults(book, log, told):
-    """Each told reply stands in the log, none twice, and nothing else stands there."""
+def told_faults(book, log, told, ticks):
+    """Each told reply stands in the log, none twice, and nothing else stands there but ticks of the leader and calls without keys,
+    which unkeyed_faults looks at."""
     taken = {}
     for it in told:
         if it.n == 0:
@@ -40,7 +43,8 @@ def told_faults(book, log, told):
             yield f"{book} {it.n}: told to {taken[it.n]} and to {it.key}"
         taken[it.n] = it.key
     for number in range(1, len(log) + 1):
-        if number not in taken:
+        entry = log[number - 1]
+        if number not in taken and not (ticks and entry.command == "tick") and not is_unkeyed(entry.command):
             yield f"{book} {number}: {log[number - 1]} was told to nobody"
 
 

@@ -3,6 +3,7 @@ import time
 
 from clients import Caller, Entry, Looker, Reader
 from judge import image_of, judge
+from unkeyed import Unkeyed, unkeyed_faults
 
 BOOKS = ["p0", "p1", "p2"]
 LEAST = 50  # so many calls are told in a run, on a slow machine too
@@ -42,21 +43,26 @@ def asked_for(ask, statuses, limit=60):
 
 
 class Work:
-    """Callers, lookers and a reader of each book, from `begin` to `end`."""
+    """Callers with keys and without, lookers and a reader of each book, and others who work beside them, from `begin` to `end`.
+    With ticks the leader ticks by itself."""
 
-    def __init__(self, group, nodes, callers=8, lookers=2, pace=0.004):
-        self.group, self.nodes = group, nodes
+    def __init__(self, group, nodes, callers=8, lookers=2, pace=0.004, beside=(), ticks=False):
+        self.group, self.nodes, self.beside, self.ticks = group, nodes, list(beside), ticks
+        self.plain = [Unkeyed(group, number, BOOKS, 0.02) for number in (1, 2)]
         self.calls = [Caller(group, number, BOOKS, pace) for number in range(1, callers + 1)]
         self.looks = [Looker(group, number, BOOKS) for number in range(lookers)]
         self.reads = [Reader(group, book) for book in BOOKS]
         self.more = []  # what others were told, as the callers have it
 
+    def clients(self):
+        return [*self.calls, *self.plain, *self.looks, *self.beside, *self.reads]
+
     def begin(self):
-        for client in [*self.calls, *self.looks, *self.reads]:
+        for client in self.clients():
             client.start()
 
     def told(self):
-        return [*(it for one in self.calls for it in one.told), *self.more]
+        return [*(it for one in [*self.calls, *self.plain] for it in one.told), *self.more]
 
     def count_told(self):
         return sum(len(one.told) for one in self.calls)
@@ -73,22 +79,22 @@ class Work:
             time.sleep(0.01)
 
     def faults_so_far(self):
-        return [f"{type(it).__name__}: {it.fault}" for it in [*self.calls, *self.looks, *self.reads] if it.fault]
+        return [f"{type(it).__name__}: {it.fault}" for it in self.clients() if it.fault]
 
     def give_up(self, run):
         """Ends without a judgement, after a fault."""
         run.faults += self.faults_so_far()
-        for client in [*self.calls, *self.looks, *self.reads]:
+        for client in self.clients():
             client.give_up()
 
     def end(self, run):
         """Lets the clients end, when all members are up, and judges."""
-        run.faults += finish(self.group, self.calls, self.looks, self.reads)
+        run.faults += finish(self.group, [*self.calls, *self.plain, *self.looks, *self.beside], self.reads)
         told, seen = self.told(), [it for one in self.looks for it in one.looks]
         logs = {one.book: filled(one.entries, [it for it in told if it.book == one.book]) for one in self.reads}
-        run.faults += judge(self.nodes, logs, told, seen)
-        if all(all(log) for log in logs.values()):
-            run.faults += image_faults(self.group, self.nodes, logs)
+        run.faults += judge(self.nodes, logs, told, seen, self.ticks)
+        run.faults += unkeyed_faults(logs, [it for one in self.plain for it in one.asked])
+        run.faults += image_faults(self.group, self.nodes, logs, self.ticks)
         run.told, run.looks, run.entries = len(told), len(seen), sum(map(len, logs.values()))
         run.again = sum(one.again for one in self.calls)
         times = sorted(it.told for it in told)
@@ -101,12 +107,12 @@ def filled(log, told):
     return [entry or by_number.get(number) for number, entry in enumerate(log, 1)]
 
 
-def finish(group, calls, looks, reads):
+def finish(group, clients, reads):
     """Lets the clients end: those who ask are told, and those who read have all. Returns what went wrong."""
     faults = []
-    for client in [*calls, *looks]:
+    for client in clients:
         client.is_over.set()
-    for client in [*calls, *looks]:
+    for client in clients:
         client.join(70)
         if client.is_alive() or client.fault:
             faults.append(f"{type(client).__name__}: {client.fault or 'it does not end'}")
@@ -131,12 +137,17 @@ def entries_of(group, member, book):
     return status, told.get("n", 0)
 
 
-def image_faults(group, nodes, logs):
-    """All members have the image that the rules have after the log."""
+def image_faults(group, nodes, logs, ticks=False):
+    """All members have the image that the rules have after the log. Where an entry was forgotten by all, and told to nobody, they
+    have one image. With ticks the leader may have ticked since the log was read."""
     for book, log in logs.items():
-        right = image_of(nodes, log).encode()
+        seen = {}
         for member in group.members.values():
             path = f"/books/{book}/image?now=1"
-            status, _, text = asked_for(lambda: group.asker.ask(member.client, "GET", path), [200])
-            if text != right:
-                yield f"{book}: member {member.number} has another image, status {status}"
+            status, headers, text = asked_for(lambda: group.asker.ask(member.client, "GET", path), [200])
+            more = int(headers.get("Lrcmand-Entries", 0)) - len(log)
+            later = [Entry(1, "tick", "")] * (more if ticks else 0)
+            if more not in seen:
+                seen[more] = image_of(nodes, [*log, *later]).encode() if all(log) else text
+            if status != 200 or text != seen[more]:
+                yield f"{book}: member {member.number} has another image, status {status}, {more} entries more"
