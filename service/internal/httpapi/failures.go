@@ -114,11 +114,9 @@ var failuresOf = []struct {
 	code   string
 }{
 	{state.ErrNoBook, http.StatusNotFound, "no_book"},
-	{state.ErrDiffers, http.StatusServiceUnavailable, "differs"},
 	{book.ErrNotFound, http.StatusNotFound, "not_found"},
 	{book.ErrUndetermined, http.StatusConflict, "undetermined"},
 	{replica.ErrFull, http.StatusTooManyRequests, "too_many_requests"},
-	{replica.ErrLate, http.StatusServiceUnavailable, "busy"},
 	{disk.ErrFull, http.StatusInsufficientStorage, "disk_full"},
 	{replica.ErrLate, http.StatusServiceUnavailable, "busy"},
 	{state.ErrDiffers, http.StatusServiceUnavailable, "differs"},

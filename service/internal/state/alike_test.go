@@ -3,8 +3,10 @@ package state
 import (
 	"bytes"
 	"fmt"
+	"io"
 	"math/rand"
 	"reflect"
+	"sync"
 	"testing"
 
 	"lrcman/service/internal/book"
@@ -25,7 +27,9 @@ func drawnItem(r *rand.Rand, s *State, index uint64) *Item {
 		item.Key, item.Owner, item.Since = fmt.Sprint(r.Intn(30)), []string{"", "o"}[r.Intn(2)], index-1-uint64(r.Intn(3))%index
 	}
 	if e := s.books[item.Book]; e != nil && r.Intn(4) == 0 {
+		e.mu.Lock()
 		at := e.position()
+		e.mu.Unlock()
 		at.Made -= uint64(r.Intn(2)) % (at.Made + 1)
 		item.At = &at
 	}
@@ -141,6 +145,9 @@ func (a *alike) replayed(snapshot []byte, begun uint64) {
 	a.t.Helper()
 	q := a.restored(snapshot)
 	for index := begun + 1; index <= a.index; index++ {
+		if a.r.Intn(15) == 0 { // (it is restarted, and its own snapshot has as much)
+			q = q.restored(q.snapshot())
+		}
 		told, err := q.s.Apply(index, a.payloads[index-1])
 		if err != nil {
 			a.t.Fatal(err)
@@ -196,6 +203,73 @@ func TestMembersAreAlike(t *testing.T) {
 	}
 	if passed < logs {
 		t.Errorf("%d snapshots of %d logs", passed, logs)
+	}
+}
+
+// Snapshots are written and books are looked at beside entries, by other goroutines.
+func TestSnapshotsAreWrittenBesideEntries(t *testing.T) {
+	a := &alike{player: &player{t: t, s: NewWith(Knobs{Keys: 5, Books: 3})}, r: rand.New(rand.NewSource(8))}
+	var mu sync.Mutex
+	snapshots, stop := map[uint64][]byte{}, make(chan struct{})
+	var lookers, writers sync.WaitGroup
+	for i := 0; i < 3; i++ {
+		lookers.Add(1)
+		go func() {
+			defer lookers.Done()
+			a.lookAround(stop)
+		}()
+	}
+	slots := make(chan struct{}, mostFreezes)
+	for step := 0; step < 200; step++ {
+		a.step()
+		if a.r.Intn(8) > 0 {
+			continue
+		}
+		slots <- struct{}{}
+		writers.Add(1)
+		go func(write func(io.Writer) error, begun uint64) {
+			defer writers.Done()
+			var text bytes.Buffer
+			if err := write(&text); err != nil {
+				t.Error(err)
+			}
+			mu.Lock()
+			snapshots[begun] = text.Bytes()
+			mu.Unlock()
+			<-slots
+		}(a.s.Freeze(), a.index)
+	}
+	writers.Wait()
+	close(stop)
+	lookers.Wait()
+	for begun, snapshot := range snapshots {
+		a.replayed(snapshot, begun)
+	}
+}
+
+// lookAround looks at all that there is until it is told to stop.
+func (a *alike) lookAround(stop <-chan struct{}) {
+	for {
+		for _, name := range a.s.Names() {
+			err := a.s.Look(name, func(v *View) error {
+				if _, err := v.Holders(); err != nil {
+					return err
+				}
+				_, err := v.Entries(v.Before(), 10)
+				return err
+			})
+			if err != nil && err != ErrNoBook {
+				a.t.Error(err)
+			}
+		}
+		if len(a.s.Differs()) > len(a.s.Digests()) || a.s.Change().Form != Form {
+			a.t.Error("it has more books that differ than digests")
+		}
+		select {
+		case <-stop:
+			return
+		default:
+		}
 	}
 }
 

@@ -161,21 +161,17 @@ func (e *bookEntry) call(item *Item) (Answer, error) {
 // spent is a rejection for a call after which the book could have no image: then nobody could begin in a snapshot, forget its
 // entries or open it again.
 func (e *bookEntry) spent(item *Item) Answer {
-	if e.book.Made() >= book.MostEntries {
-		return reject(Spent, "the book has as many entries as there may be")
-	}
-	switch item.Command.Kind {
-	case book.Tick, book.Lease, book.Next:
-	default:
-		return Answer{}
-	}
-	reply, err := e.book.Peek(item.Session, item.Command)
+	kind := item.Command.Kind
 	switch {
-	case err != nil: // (the call will tell)
-	case reply.Kind == book.Ticked && reply.Clock > book.MostTicks:
+	case e.book.Made() >= book.MostEntries:
+		return reject(Spent, "the book has as many entries as there may be")
+	case kind == book.Tick && e.book.Clock() >= book.MostTicks:
 		return reject(Spent, "the clock of the book is at its end")
-	case reply.Kind == book.Granted && reply.Lease.Epoch > book.MostGrants:
-		return reject(Spent, fmt.Sprintf("fragment %d of stripe %d was leased as often as may be", reply.Lease.Fragment, reply.Lease.Stripe))
+	case kind == book.Lease || kind == book.Next:
+		reply, err := e.book.Peek(item.Session, item.Command) // (if that fails, the call tells why)
+		if lease := reply.Lease; err == nil && reply.Kind == book.Granted && lease.Epoch > book.MostGrants {
+			return reject(Spent, fmt.Sprintf("fragment %d of stripe %d was leased as often as may be", lease.Fragment, lease.Stripe))
+		}
 	}
 	return Answer{}
 }

@@ -304,25 +304,6 @@ func (s *State) Restore(from io.Reader) error {
 	return nil
 }
 
-// Last is the index of the last entry of which the state has something: books may be newer than the snapshot that it began in. A
-// log that begins anew behind a snapshot has to go on above it, since Apply passes over what the books have.
-func (s *State) Last() uint64 {
-	s.mu.RLock()
-	last, books := s.index, make([]*bookEntry, 0, len(s.books))
-	for _, e := range s.books {
-		books = append(books, e)
-	}
-	s.mu.RUnlock()
-	for _, e := range books {
-		e.mu.Lock()
-		if e.seen.Index > last {
-			last = e.seen.Index
-		}
-		e.mu.Unlock()
-	}
-	return last
-}
-
 // Verify reads a snapshot to its end, and changes nothing. The error wraps engine.ErrDamaged if it is not as it was written.
 func (s *State) Verify(from io.Reader) error {
 	_, err := s.read(from, func(*bookEntry, []byte) error { return nil })

@@ -160,22 +160,6 @@ func TestASnapshotIsGivenUpWhereAnotherTakesItsPlace(t *testing.T) {
 	}
 }
 
-// Whoever begins a new log behind a snapshot knows where: a book may be newer than the snapshot.
-func TestTheLastEntryOfASnapshotIsKnown(t *testing.T) {
-	p := newPlayer(t)
-	p.item(&Item{Action: Create, Book: "p1", Nodes: nodesOf(2, 1)})
-	write := p.s.Freeze()
-	p.call("tick")
-	p.call("tick")
-	var text bytes.Buffer
-	if err := write(&text); err != nil {
-		t.Fatal(err)
-	}
-	if q := p.restored(text.Bytes()); p.s.Last() != 4 || q.s.Last() != 4 || p.restored(p.snapshot()).s.Last() != 4 {
-		t.Error(p.s.Last(), q.s.Last())
-	}
-}
-
 // What is read of a record is written as the same record, or it is not read.
 func FuzzRecord(f *testing.F) {
 	p := &player{s: New(), t: &testing.T{}}
