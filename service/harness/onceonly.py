@@ -11,7 +11,7 @@ from rules import Node
 from work import asked_for
 
 BOOK, ELECTION = "p0", 0.5
-WORDS = ["--election", f"{ELECTION}s", "--tick", "0", "--timeout", "20s"]
+WORDS = ["--election", f"{ELECTION}s", "--tick", "0", "--compare", "1", "--timeout", "20s"]
 KEYS = 4096  # that a book keeps
 MADE, NEVER = (200,), (429, 503)
 
@@ -201,11 +201,39 @@ def test_lost_words(count, program, folder, topology, rounds=3):
             asked_for(is_told, [True], 10)
             network.open(*ways)
             callers.end()
-        log = log_of(group, 1)
-        faults = list(calls.faults(log))
+        faults = list(calls.faults(log_of(group, 1)))
         count.check(f"calls without keys are made as they were told: {faults[:3]}", not faults)
         count.check(f"some are unknown: {calls.count(504)}", calls.count(504) > 0)
-        return faults
+        for number in group.members:
+            expect_health(count, group, number, 200, None)
+
+
+def expect_health(count, group, number, status, code):
+    asker, port, found, end = Asker(10), group.members[number].client, None, time.monotonic() + 20
+    while found != (status, code) and time.monotonic() < end:
+        answer = asker.json(port, "GET", "/health")
+        found = answer[0], answer[1].get("code")
+        time.sleep(0.05)
+    count.check(f"the health of member {number}: {found}", found == (status, code))
+
+
+def test_comparison(count, faulty, folder, topology):
+    """One of three members takes other checksums of its books: it is not ready, and shows them to nobody. The others go on."""
+    group, asker = Group(faulty, folder, 3, WORDS, {"LRCMAND_FAULT": "none"}), Asker(10)
+    with group:
+        group.leader()
+        group.members[3].kill()
+        group.env = {"LRCMAND_FAULT": "differs"}
+        group.start(group.members[3])
+        make(group, topology)
+        expect_health(count, group, 3, 503, "differs")
+        for number, right in ((1, (200, None)), (2, (200, None)), (3, (503, "differs"))):
+            expect_health(count, group, number, *right)
+            status, told = asker.json(group.members[number].client, "GET", f"/books/{BOOK}")
+            count.check(f"a look at member {number}: {status} {told}", (status, told.get("code")) == right)
+        body = {"command": "next"}
+        told = [asker.json(group.members[number].client, "POST", f"/books/{BOOK}/call", body)[0] for number in group.members]
+        count.check(f"calls are the group's: {told}", told == [200, 200, 200])
 
 
 def test_without_quorum(count, program, folder, topology):
@@ -270,9 +298,9 @@ def ticks(asker, member):
     return sum(json.loads(line)["command"] == "tick" for line in text.splitlines())
 
 
-def test_once_only(count, program, room, nodes):
+def test_once_only(count, program, faulty, room, nodes):
     topology = harness.topology_of(nodes)
-    for test in (test_forgotten_key, test_creation_around_removal, test_lost_words, test_without_quorum, test_ticks):
+    for test in (test_forgotten_key, test_creation_around_removal, test_lost_words, test_without_quorum, test_ticks, test_comparison):
         begun = time.monotonic()
-        test(count, program, f"{room}/{test.__name__}", topology)
+        test(count, faulty if test is test_comparison else program, f"{room}/{test.__name__}", topology)
         print(f"{test.__name__[5:].replace('_', ' ')}: {time.monotonic() - begun:.0f} s", flush=True)

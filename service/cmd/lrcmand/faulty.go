@@ -40,6 +40,8 @@ func readKnobs() (k knobs) {
 		k.raftlog.SyncFolder = func(string) error { return nil }
 	case "stale": // looks as of now are as old as they happen to be
 		k.raftlog.AskMajority = func() error { return nil }
+	case "differs": // its books have other checksums than those of the others
+		k.state.Sum = func(sum [32]byte) [32]byte { sum[0] ^= 1; return sum }
 	}
 	return k
 }

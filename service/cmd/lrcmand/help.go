@@ -23,7 +23,7 @@ Each option may stand in the environment too: --snapshot-every as LRCMAND_SNAPSH
 var groups = []usage.Group{
 	{Title: "Member", Names: []string{"data", "listen", "listen-metrics", "host", "id"}},
 	{Title: "Group", Names: []string{"members", "new", "join", "peer", "peer-name", "group"}},
-	{Title: "Times", Names: []string{"tick", "election", "timeout"}},
+	{Title: "Times", Names: []string{"tick", "compare", "election", "timeout"}},
 	{Title: "Disk and limits", Names: []string{"snapshot-every", "trailing", "disk-reserve", "rate"}},
 	{Title: "Rights and certificates", Names: []string{"token-file", "audit-file", "cert", "key", "client-ca", "peer-cert", "peer-key", "peer-ca",
 		"trust-network"}},

@@ -21,22 +21,22 @@ import (
 
 // options are the words of the command line.
 type options struct {
-	data, listen, peer, group, tokenFile    string
-	members                                 string
-	cert, key, clientCA                     string
-	peerCert, peerKey, peerCA               string
-	id, tick, snapshotEvery, trailing, rate uint64
-	isNew, join, trustNetwork, version      bool
-	peerNames                               several
-	diskReserve, snapshotBytes              uint64
-	logFormat, logLevel                     string
-	logging                                 logging.Config
-	election, timeout                       time.Duration
-	self                                    engine.Member
-	first                                   []engine.Member
-	rights                                  *httpapi.Rights
-	listenMetrics, auditFile                string
-	hosts                                   hostNames
+	data, listen, peer, group, tokenFile             string
+	members                                          string
+	cert, key, clientCA                              string
+	peerCert, peerKey, peerCA                        string
+	id, tick, compare, snapshotEvery, trailing, rate uint64
+	isNew, join, trustNetwork, version               bool
+	peerNames                                        several
+	diskReserve, snapshotBytes                       uint64
+	logFormat, logLevel                              string
+	logging                                          logging.Config
+	election, timeout                                time.Duration
+	self                                             engine.Member
+	first                                            []engine.Member
+	rights                                           *httpapi.Rights
+	listenMetrics, auditFile                         string
+	hosts                                            hostNames
 }
 
 // patience is how long a member that has not begun waits for the others.
@@ -70,6 +70,7 @@ func parse(words []string) (*options, error) {
 	flags.BoolVar(&o.join, "join", false, "this member was added to a group that runs")
 	flags.StringVar(&o.group, "group", "lrcmand", "`NAME`: members of another group are refused")
 	flags.Uint64Var(&o.tick, "tick", 600, "`SECONDS`: time between two ticks by the leader; 0: never")
+	flags.Uint64Var(&o.compare, "compare", 10, "`SECONDS`: time between two books that the members compare; 0: none is")
 	flags.DurationVar(&o.election, "election", time.Second, "`DURATION`: how long a leader may be silent")
 	flags.DurationVar(&o.timeout, "timeout", 10*time.Second, "`DURATION`: how long a request may take")
 	flags.Uint64Var(&o.snapshotEvery, "snapshot-every", 100000, "`N`: entries between snapshots")
@@ -112,6 +113,8 @@ func (o *options) check() error {
 		return fmt.Errorf("--id is 1 to %d", engine.MostID)
 	case o.tick > 1<<31:
 		return errors.New("--tick is too high")
+	case o.compare > 1<<31:
+		return errors.New("--compare is too high")
 	case o.election < 100*time.Millisecond:
 		return errors.New("--election is 100ms or more")
 	case o.timeout < o.election:
@@ -271,7 +274,8 @@ func (o *options) rates() *httpapi.Rates {
 	return httpapi.NewRates(o.rate)
 }
 
-func (o *options) tickTime() time.Duration { return time.Duration(o.tick) * time.Second }
+func (o *options) tickTime() time.Duration    { return time.Duration(o.tick) * time.Second }
+func (o *options) compareTime() time.Duration { return time.Duration(o.compare) * time.Second }
 
 func (o *options) config(logger *logging.Logger) raftlog.Config {
 	cfg := raftlog.Config{Dir: o.data, Name: o.group, New: o.isNew, Self: o.self, Members: o.first, Listen: o.peer,

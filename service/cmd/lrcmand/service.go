@@ -93,7 +93,7 @@ func newService(o *options, logger *logging.Logger, node engine.Engine, books *s
 	s := &service{options: o, log: logger, engine: node, ports: ports}
 	s.disk = disk.New(disk.Config{Folder: o.data, Reserve: o.diskReserve, Changed: s.diskChanged})
 	r := replica.New(replica.Config{Engine: node, State: books, Timeout: o.timeout, Election: o.election, Tick: o.tickTime(),
-		Log: logger.Std(logging.Info), MayChange: s.disk.MayChange, Knobs: knobs})
+		Compare: o.compareTime(), Log: logger.Std(logging.Info), MayChange: s.disk.MayChange, Knobs: knobs})
 	s.monitoring = newMonitoring(node, books, s.sources(r))
 	s.monitoring.metrics.ConnectionsOf(ports.connections.Counts)
 	s.api = httpapi.New(httpapi.Config{Engine: node, State: books, Replica: r, Rights: o.rights, Hosts: o.allHosts(node), Rates: o.rates(),

@@ -1,6 +1,7 @@
 package httpapi
 
 import (
+	"context"
 	"encoding/json"
 	"fmt"
 	"net/http"
@@ -246,5 +247,30 @@ func TestEachLookAsOfNowAsksFirst(t *testing.T) {
 			}
 		}
 		s.refused(route.Method, path+"?now=1"+more, "", 503, "there is no leader")
+	}
+}
+
+// A member whose book is not that of the others shows it to nobody, and is not ready.
+func TestABookThatDiffersIsShownToNobody(t *testing.T) {
+	s := newService(t, nil)
+	propose := func(items ...*state.Item) {
+		if _, err := s.engine.Propose(context.Background(), s.state.Encode(items)); err != nil {
+			t.Fatal(err)
+		}
+	}
+	s.expect("PUT", "/books/p1", nodes(4), 200, `{"n":0,"opens":2048}`)
+	propose(&state.Item{Action: state.Digest, Book: "p0"})
+	s.expect("GET", "/health", "", 200, `{"ok":true}`)
+	at := s.state.Digests()[0].At
+	propose(&state.Item{Action: state.Report, Book: "p0", Digest: at, Member: 2}, &state.Item{Action: state.Report, Book: "p0", Digest: at, Member: 3})
+	for _, path := range []string{"/health", "/books/p0", "/books/p0/image", "/books/p0/log"} {
+		if _, fail := s.failed("GET", path, ""); fail.Status != 503 || fail.Code != "differs" {
+			t.Errorf("%s: %+v", path, fail)
+		}
+	}
+	for _, path := range []string{"/books/p1", "/status"} {
+		if answer, text := s.ask("GET", path, ""); answer.StatusCode != 200 {
+			t.Errorf("%s: %s", path, text)
+		}
 	}
 }

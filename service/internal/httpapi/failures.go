@@ -118,8 +118,6 @@ var failuresOf = []struct {
 	{book.ErrUndetermined, http.StatusConflict, "undetermined"},
 	{replica.ErrFull, http.StatusTooManyRequests, "too_many_requests"},
 	{disk.ErrFull, http.StatusInsufficientStorage, "disk_full"},
-	{replica.ErrLate, http.StatusServiceUnavailable, "busy"},
-	{state.ErrDiffers, http.StatusServiceUnavailable, "differs"},
 	{engine.ErrNoLeader, http.StatusServiceUnavailable, "no_leader"},
 	{engine.ErrNotMoved, http.StatusServiceUnavailable, "busy"},
 	{engine.ErrBusy, http.StatusServiceUnavailable, "busy"},

@@ -8,6 +8,7 @@ import (
 	"time"
 
 	"lrcman/service/internal/engine"
+	"lrcman/service/internal/state"
 )
 
 // A Build is which program this is.
@@ -28,6 +29,8 @@ const stuckTime = time.Minute
 func (g *group) health(q *request) error {
 	if !g.replica.KeepsUp() {
 		return engine.ErrNoLeader
+	} else if len(g.state.Differs()) > 0 {
+		return state.ErrDiffers
 	}
 	return q.say(http.StatusOK, map[string]bool{"ok": true})
 }

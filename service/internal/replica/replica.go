@@ -1,5 +1,6 @@
 // Package replica is what a member does beside answering: it brings items into the log of its group, gathered into entries; it
-// ticks books while it leads; it knows how new its own books are; and it asks for the snapshot that other rules begin in.
+// ticks books while it leads, and has the members compare them; it knows how new its own books are; and it asks for the snapshot
+// that other rules begin in.
 package replica
 
 import (
@@ -24,6 +25,7 @@ type Config struct {
 	Timeout  time.Duration // of an item of this member's own, and of a question whether this member is up to date
 	Election time.Duration // what waits for a leader longer than this is refused; 0: one second
 	Tick     time.Duration // between two ticks by the leader; 0: never
+	Compare  time.Duration // between two books that the leader has compared; 0: none is
 	Log      *log.Logger
 	// MayChange tells why this member takes no such item now; nil: it takes all.
 	MayChange func(*state.Item) error
@@ -54,12 +56,16 @@ func New(cfg Config) *Replica {
 	return &Replica{cfg: cfg, queue: newQueue(mayWait), begun: time.Now()}
 }
 
-// Run brings items into the log, ticks and asks how new the books are, until the context ends.
+// Run brings items into the log, ticks, compares and asks how new the books are, until the context ends.
 func (r *Replica) Run(ctx context.Context) {
 	go r.refresh(ctx)
 	go r.watch(ctx)
 	if r.cfg.Tick > 0 {
 		go r.tick(ctx, r.cfg.Tick)
+	}
+	if r.cfg.Compare > 0 {
+		go r.compare(ctx)
+		go r.report(ctx)
 	}
 	r.gather(ctx)
 }

@@ -48,9 +48,13 @@ func (s *State) digest(e *bookEntry, at Stamp, _ *Item) (Answer, error) {
 	if err != nil {
 		return ofFull(err)
 	}
+	sum := sha256.Sum256(record)
+	if s.knobs.Sum != nil {
+		sum = s.knobs.Sum(sum)
+	}
 	s.mu.Lock()
 	defer s.mu.Unlock()
-	s.digests[e.name] = &digest{at: at, sum: sha256.Sum256(record), reports: map[uint64]bool{}, isBroken: s.digests[e.name].differs()}
+	s.digests[e.name] = &digest{at: at, sum: sum, reports: map[uint64]bool{}, isBroken: s.digests[e.name].differs()}
 	position := e.position()
 	return Answer{Made: position.Made, Opens: position.Opens}, nil
 }

@@ -71,10 +71,11 @@ type State struct {
 
 // Knobs are what tests, and a program that is built with the tag faulty, do otherwise. Those that are zero change nothing.
 type Knobs struct {
-	Rules uint32            // what the library's rules are taken for
-	Keys  int               // how many keys are kept, in place of MostKeys
-	Books int               // how many books there may be, in place of MostBooks
-	Item  func(Stamp) error // is called before each item; an error ends the entry there, as a library without memory does
+	Rules uint32                  // what the library's rules are taken for
+	Keys  int                     // how many keys are kept, in place of MostKeys
+	Books int                     // how many books there may be, in place of MostBooks
+	Item  func(Stamp) error       // is called before each item; an error ends the entry there, as a library without memory does
+	Sum   func([32]byte) [32]byte // is what a Digest finds, of the checksum that it is
 }
 
 // New is the state before the first entry.
