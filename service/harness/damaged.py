@@ -97,6 +97,7 @@ KINDS = {
     "snap/*.snap": ({"right"}, "can't be read: this member begins in the one at"),
     "snap/*.snap.db": ({"right"}, "can't be read: this member begins in the one at"),
     "mark": ({"right"}, "the file mark can't be read"),
+    "identity": ({"right"}, "the file identity can't be read"),
     "lock": ({"right"}, ""),
 }
 

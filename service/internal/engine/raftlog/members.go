@@ -52,6 +52,7 @@ func (n *Node) startPeers() error {
 		n.peers.URLs = urls
 	}
 	if err := n.peers.Start(); err != nil {
+		n.peers = nil // (it can't be stopped)
 		return err
 	}
 	for _, member := range n.sorted() { // from the snapshot; those of later entries come when these are applied

@@ -44,6 +44,7 @@ const (
 type port struct {
 	node        *Node
 	server      *http.Server
+	listener    net.Listener
 	invitations chan invitation // of groups, as long as this member is of none
 	receiving   chan struct{}   // one snapshot at a time
 
@@ -59,15 +60,15 @@ func (n *Node) openPort() error {
 	if n.cfg.Listen == "" {
 		return nil
 	}
-	listener, err := n.listen()
-	if err != nil {
+	var err error
+	if n.port.listener, err = n.listen(); err != nil {
 		return err
 	}
 	n.port.server = &http.Server{Handler: n.port, ReadHeaderTimeout: headTime, IdleTimeout: idleTime, MaxHeaderBytes: 16 << 10,
 		ErrorLog: log.New(io.Discard, "", 0), ConnContext: func(ctx context.Context, c net.Conn) context.Context {
 			return context.WithValue(ctx, connectionKey{}, c)
 		}}
-	go n.port.server.Serve(listener)
+	go n.port.server.Serve(n.port.listener)
 	return nil
 }
 
@@ -81,6 +82,7 @@ func (p *port) open(inner http.Handler) {
 func (p *port) close() {
 	if p.server != nil {
 		p.server.Close()
+		p.listener.Close() // (the server may not have it yet)
 	}
 }
 

@@ -84,7 +84,12 @@ func (l *list) Freeze() func(io.Writer) error {
 	}
 }
 
-func (l *list) Check([]byte) error { return nil }
+func (l *list) Check(payload []byte) error {
+	if strings.HasPrefix(string(payload), "unreadable") {
+		return errors.New("it can't be read")
+	}
+	return nil
+}
 
 // A content is what a snapshot of a list has.
 type content struct {

@@ -138,6 +138,7 @@ func (n *Node) noteStart(s start) {
 	defer n.mu.Unlock()
 	if _, isThere := n.starts[s.Member]; !isThere {
 		n.starts[s.Member] = heardStart{start: s}
+		n.areStartsUnsaved = true
 	}
 }
 
