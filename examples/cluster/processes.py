@@ -7,7 +7,12 @@ import shutil
 import signal
 import socket
 import subprocess
+import sys
 import time
+
+HERE = os.path.dirname(os.path.abspath(__file__))
+sys.path.append(os.path.join(os.path.dirname(os.path.dirname(HERE)), "service/client"))
+from lrcmand_client import Client  # noqa: E402
 
 # A wide stripe takes 16 racks, and one more for each that is lost. With 18, and 12 upgrade domains, each stripe finds its seats
 # also while a rack is gone or a domain is upgrading.
@@ -68,6 +73,7 @@ class Store:
         self.nodes = [Node(number, ports.pop(), folder) for number in range(NODES)]
         self.members = {number: (ports.pop(), ports.pop()) for number in range(1, members + 1)}
         self.gateway, self.processes = ports.pop(), {}
+        self.client = Client([f"127.0.0.1:{client}" for _, client in self.members.values()], timeout=LIMIT)
 
     def __enter__(self):
         return self
@@ -116,7 +122,7 @@ class Store:
             self.start(f"lrcmand-{number}", self.lrcmand, *place, "--tick", str(TICK), *words)
         for _, client in self.members.values():
             until("lrcmand is ready", lambda port=client: self.is_up(port, "/health"))
-        self.ask_book("PUT", "", self.topology().encode())
+        self.client.create(BOOK, self.topology())
 
     def topology(self):
         rows = [f"number = {it.number}\nfault = {it.rack}\nupgrade = {it.domain}\nslots = {SLOTS}\n" for it in self.nodes]
@@ -145,24 +151,11 @@ class Store:
 
     # The book.
 
-    def ask_book(self, method, path, body=None, headers=None):
-        """Asks the members in turn until one knows the answer; returns its bytes."""
-        for turn in range(LIMIT * 10):
-            port = list(self.members.values())[turn % len(self.members)][1]
-            status, _, text = ask(port, method, f"/books/{BOOK}{path}", body, headers)
-            if status == 200:
-                return text
-            if 400 <= status < 500 and status != 429:
-                raise Wrong(f"lrcmand: {method} {path}: {text.decode()}")
-            time.sleep(0.1)
-        raise Wrong(f"lrcmand does not answer: {method} {path}")
-
     def rows(self, path):
-        return json.loads(self.ask_book("GET", f"{path}?now=1"))["rows"]
+        return self.client.get(f"/books/{BOOK}{path}", now=True).json()["rows"]
 
     def call(self, command, worker=""):
-        body = json.dumps({"command": command, "worker": worker, "key": random.randbytes(8).hex()})
-        return json.loads(self.ask_book("POST", "/call", body, {"Content-Type": "application/json"}))
+        return self.client.call(BOOK, command, worker=worker)
 
     def change(self, command):
         reply = self.call(command)["reply"]

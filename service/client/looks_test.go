@@ -262,11 +262,14 @@ func TestCommandsAreLinesOfAScript(t *testing.T) {
 }
 
 func TestSeatsAreReadFromBothForms(t *testing.T) {
-	for text, want := range map[string]Seat{`"17:2"`: {17, 2}, `{"node":17,"slot":2}`: {17, 2}} {
+	for text, want := range map[string]Seat{`"17:2"`: {17, 2}, `{"node":17,"slot":2}`: {17, 2}, `"5:5"`: {5, 5}} {
 		var got Seat
-		if err := got.UnmarshalJSON([]byte(text)); err != nil || got != want || got.String() != "17:2" {
+		if err := got.UnmarshalJSON([]byte(text)); err != nil || got != want {
 			t.Errorf("%s: %v %v", text, got, err)
 		}
+	}
+	if word := (Seat{17, 2}).String(); word != "17:2" {
+		t.Error(word)
 	}
 	for _, text := range []string{`"17"`, `"a:2"`, `"1:70000"`, `"1:2:3"`, `[]`} {
 		var got Seat

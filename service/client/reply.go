@@ -42,13 +42,15 @@ func (s *Seat) UnmarshalJSON(text []byte) error {
 		return err
 	}
 	node, slot, _ := strings.Cut(word, ":")
-	for part, to := range map[string]*uint16{node: &s.Node, slot: &s.Slot} {
-		number, err := strconv.ParseUint(part, 10, 16)
-		if err != nil {
-			return fmt.Errorf("%q is no seat", word)
-		}
-		*to = uint16(number)
+	ofNode, err := strconv.ParseUint(node, 10, 16)
+	if err != nil {
+		return fmt.Errorf("%q is no seat", word)
 	}
+	ofSlot, err := strconv.ParseUint(slot, 10, 16)
+	if err != nil {
+		return fmt.Errorf("%q is no seat", word)
+	}
+	s.Node, s.Slot = uint16(ofNode), uint16(ofSlot)
 	return nil
 }
 
