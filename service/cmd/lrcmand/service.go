@@ -52,7 +52,7 @@ func startService(o *options, logger *logging.Logger) (*service, int) {
 	early := ports.serveEarly(shutGate(starts))
 	knobs := readKnobs()
 	books, cfg := state.NewWith(knobs.state), o.config(logger)
-	cfg.Knobs = knobs.raftlog
+	cfg.Knobs, cfg.IsFull = knobs.raftlog, func() bool { return disk.IsShort(o.data, o.diskReserve) }
 	node, err := raftlog.Start(cfg, books)
 	if err != nil {
 		logger.Error(err.Error())
@@ -135,15 +135,30 @@ func (s *service) checks(books *state.State) []httpapi.Check {
 	}}}
 }
 
-// diskChanged says that changes are refused from now on, or taken again. A leader whose disk may soon be full gives its lead away.
+// diskChanged says that changes are refused from now on, or taken again.
 func (s *service) diskChanged(isLow bool, free int64) {
-	if !isLow {
+	if isLow {
+		s.log.Warn("the disk has less room than its reserve: changes are refused", "free", free, "reserve", s.options.diskReserve)
+		go s.leadAwayWhileLow()
+	} else {
 		s.log.Info("the disk has room again: changes are taken", "free", free, "reserve", s.options.diskReserve)
-		return
 	}
-	s.log.Warn("the disk has less room than its reserve: changes are refused", "free", free, "reserve", s.options.diskReserve)
-	go s.leadAway()
 }
+
+// leadAwayWhileLow gives the lead to a member with room, as soon as there is one: this one may soon end.
+func (s *service) leadAwayWhileLow() {
+	for s.disk.IsLow() {
+		s.leadAway(true)
+		select {
+		case <-time.After(lowTime):
+		case <-s.engine.Done():
+			return
+		}
+	}
+}
+
+// lowTime is the time between two tries to find a member with room.
+const lowTime = 5 * time.Second
 
 func (s *service) notify(state string) {
 	if err := notify(state); err != nil {
@@ -202,7 +217,7 @@ func (s *service) drain() {
 	s.api.Close()
 	s.monitoring.stop()
 	s.gate.quiet(s.options.election)
-	s.leadAway()
+	s.leadAway(false)
 	ctx, cancel := context.WithTimeout(context.Background(), s.options.timeout)
 	defer cancel()
 	if err := s.server.Shutdown(ctx); err != nil {
@@ -210,17 +225,17 @@ func (s *service) drain() {
 	}
 }
 
-func (s *service) leadAway() {
+func (s *service) leadAway(needsRoom bool) {
 	before := s.engine.Status()
 	if before.Leader != before.ID {
 		return
 	}
 	ctx, cancel := context.WithTimeout(context.Background(), 2*s.options.election)
 	defer cancel()
-	if err := s.engine.LeadAway(ctx); err == nil {
+	if err := s.engine.LeadAway(ctx, needsRoom); err == nil {
 		s.log.Info("another member leads", "leader", s.engine.Status().Leader)
 	} else if len(before.Members) > 1 {
-		s.log.Warn("the lead was not handed over", "error", err)
+		s.log.Warn("no other member takes the lead", "error", err)
 	}
 }
 

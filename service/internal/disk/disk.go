@@ -33,7 +33,7 @@ type Watch struct {
 	isLow int32 // atomic
 }
 
-// New measures once.
+// New makes a watch, which knows nothing before it runs.
 func New(cfg Config) *Watch {
 	if cfg.Free == nil {
 		cfg.Free = Free
@@ -41,13 +41,12 @@ func New(cfg Config) *Watch {
 	if cfg.Changed == nil {
 		cfg.Changed = func(bool, int64) {}
 	}
-	w := &Watch{cfg: cfg}
-	w.measure()
-	return w
+	return &Watch{cfg: cfg, free: -1}
 }
 
 // Run measures each second, until the context ends.
 func (w *Watch) Run(ctx context.Context) {
+	w.measure()
 	tick := time.NewTicker(each)
 	defer tick.Stop()
 	for {
@@ -82,6 +81,12 @@ func Free(folder string) int64 {
 		return -1
 	}
 	return int64(stat.Bavail) * stat.Bsize
+}
+
+// IsShort tells whether a folder has less room than a reserve now.
+func IsShort(folder string, reserve uint64) bool {
+	free := Free(folder)
+	return free >= 0 && free < int64(reserve)
 }
 
 // IsLow tells whether changes are refused.

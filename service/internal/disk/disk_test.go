@@ -36,7 +36,8 @@ func TestChangesAreRefusedBelowTheReserve(t *testing.T) {
 }
 
 func TestWithoutAReserveNothingIsRefused(t *testing.T) {
-	if w := New(Config{Free: func(string) int64 { return 0 }}); w.IsLow() {
+	w := New(Config{Free: func(string) int64 { return 0 }})
+	if w.measure(); w.IsLow() {
 		t.Error("refused")
 	}
 }
@@ -48,8 +49,8 @@ func TestTheRoomOfAFolderIsMeasuredAgain(t *testing.T) {
 	if free := Free("/no/such/folder"); free != -1 {
 		t.Error(free)
 	}
-	if w := New(Config{Folder: t.TempDir(), Reserve: 1 << 62}); !w.IsLow() {
-		t.Error("the disk has more than there is")
+	if folder := t.TempDir(); !IsShort(folder, 1<<62) || IsShort(folder, 0) || IsShort("/no/such/folder", 1<<62) {
+		t.Error("the disk has more than there is, or less")
 	}
 	changed := make(chan bool, 1)
 	calls := 0

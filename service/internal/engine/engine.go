@@ -118,9 +118,9 @@ type Engine interface {
 	// Lead makes a member the leader, and returns once it is, as far as this one knows. It may take long if that member is
 	// behind, and it fails if the context ends before. The error is a Refused if there is no such member.
 	Lead(ctx context.Context, id uint64) error
-	// LeadAway makes another voter the leader, if this member leads. It fails if there is none that can be reached, or if the
-	// context ends before.
-	LeadAway(ctx context.Context) error
+	// LeadAway makes another voter the leader, if this member leads; one with room on its disk, if that is needed. It fails if there
+	// is none that can be reached, or if the context ends before.
+	LeadAway(ctx context.Context, needsRoom bool) error
 	// Snapshot begins to write one now.
 	Snapshot(ctx context.Context) error
 	// Backup takes what this member has applied. It fails if the context ends before there is a snapshot.

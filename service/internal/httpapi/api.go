@@ -125,7 +125,7 @@ func (a *API) ServeHTTP(w http.ResponseWriter, r *http.Request) { a.serve(w, r, 
 func (a *API) answerIn(w http.ResponseWriter, r *http.Request, to target, isWatch bool) *request {
 	ctx, cancel := context.WithTimeout(r.Context(), a.cfg.Timeout)
 	defer cancel()
-	q := &request{w: w, r: r, ctx: ctx, api: a, names: to.names, isWatch: isWatch, caller: &caller{}, isRead: r.ContentLength == 0}
+	q := &request{w: w, r: r, ctx: ctx, api: a, id: idOf(r), names: to.names, isWatch: isWatch, caller: &caller{}, isRead: r.ContentLength == 0}
 	defer q.giveBack()
 	q.limitTimes()
 	if q.isRead {
@@ -134,6 +134,9 @@ func (a *API) answerIn(w http.ResponseWriter, r *http.Request, to target, isWatc
 		q.enter(waiting) // (for the body)
 	}
 	setSafeHeaders(w.Header())
+	if q.id != "" {
+		w.Header().Set("X-Request-Id", q.id)
+	}
 	if err := a.answer(q, to); err != nil {
 		fail := failureOf(err)
 		a.refused.add(fail.Status)
@@ -157,6 +160,9 @@ func (a *API) answer(q *request, to target) (err error) {
 		if _, err := isJSON(q.r, false); err != nil {
 			return err
 		}
+	}
+	if err := q.checkMatch(to.route); err != nil {
+		return err
 	}
 	if q.most = to.route.Most; q.most == 0 && !q.isRead {
 		q.w.Header().Set("Connection", "close") // (else the body would be waited for before the answer is sent)
@@ -215,7 +221,8 @@ type request struct {
 	r       *http.Request
 	ctx     context.Context
 	api     *API
-	isWatch bool // at the port for health and metrics
+	id      string // that its client gave it; "" if none did
+	isWatch bool   // at the port for health and metrics
 	caller  *caller
 	takes   Role              // the right that it takes
 	names   map[string]string // of the path

@@ -57,6 +57,14 @@ func newAudit(write func(string)) *audit {
 	return &audit{write, newSparing(mostRefusals, write)}
 }
 
+// idOf is the name that a client, or what passes its requests on, gives a request; "" if there is none.
+func idOf(r *http.Request) string {
+	if id := r.Header.Get("X-Request-Id"); isWord(id) {
+		return id
+	}
+	return ""
+}
+
 func (a *audit) note(q *request, status int, index string) {
 	isRefused := status == http.StatusUnauthorized || status == http.StatusForbidden
 	if q.takes != Operate && !isRefused {
@@ -65,6 +73,9 @@ func (a *audit) note(q *request, status int, index string) {
 	line := fmt.Sprintf("time=%s name=%s address=%s method=%s path=%s status=%d index=%s",
 		time.Now().UTC().Format("2006-01-02T15:04:05.000Z"), quoted(q.caller.name), quoted(q.r.RemoteAddr), quoted(q.r.Method),
 		quoted(q.r.URL.EscapedPath()), status, quoted(index))
+	if q.id != "" {
+		line += " request=" + quoted(q.id)
+	}
 	if isRefused {
 		a.refused.print(line)
 	} else {

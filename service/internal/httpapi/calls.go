@@ -69,6 +69,9 @@ func (c *calls) answerOf(q *request, asked change) (state.Answer, error) {
 		return answer, nil
 	}
 	how := rejections[answer.Rejected]
+	if answer.Rejected == state.Moved && q.r.Header.Get("If-Match") != "" {
+		how.status = http.StatusPreconditionFailed
+	}
 	return answer, &failure{Status: how.status, Code: how.code, Words: answer.Words}
 }
 
@@ -161,6 +164,9 @@ func (c *calls) reopen(q *request) error {
 	if err != nil {
 		return err
 	}
+	if at, err = q.condition(at); err != nil {
+		return err
+	}
 	asked, err := changeOf(q, &state.Item{Action: state.Reopen, Book: q.names["book"], Nodes: text, At: at})
 	if err != nil {
 		return err
@@ -184,7 +190,10 @@ func (c *calls) remove(q *request) error {
 	if err != nil {
 		return err
 	}
-	at, err := removalOf(text)
+	at, err := q.match()
+	if err == nil && (at == nil || len(text) > 0) {
+		at, err = q.removal(text)
+	}
 	if err != nil {
 		return err
 	}
@@ -223,6 +232,9 @@ func (c *calls) call(q *request) error {
 		return err
 	}
 	item := asked.item
+	if item.At, err = q.condition(item.At); err != nil {
+		return err
+	}
 	if err := q.require(commandRole(item.Command.Kind)); err != nil {
 		return err
 	}

@@ -58,6 +58,9 @@ func (l *looks) look(q *request, look func(*state.View) error) (freshness, state
 	l.end(q, &now)
 	q.w.Header().Set("Lrcmand-Entries", strconv.FormatUint(at.Made, 10))
 	q.w.Header().Set("Lrcmand-Opens", strconv.FormatUint(at.Opens, 10))
+	if err == nil {
+		q.w.Header().Set("ETag", tagOf(at))
+	}
 	return now, at, err
 }
 
@@ -68,20 +71,27 @@ type position struct {
 	freshness
 }
 
+// A bookRow is a book in the list of all.
+type bookRow struct {
+	Name  string `json:"name"`
+	Made  uint64 `json:"n"`
+	Opens uint64 `json:"opens"`
+}
+
 func (l *looks) books(q *request) error {
+	part, err := partOf(q)
+	if err != nil {
+		return err
+	}
 	now, err := l.begin(q)
 	if err != nil {
 		return err
 	}
-	type row struct {
-		Name  string `json:"name"`
-		Made  uint64 `json:"n"`
-		Opens uint64 `json:"opens"`
-	}
-	rows := []row{}
-	for _, name := range (Scope{q.caller}).Books(l.state.Names()) {
+	names, isMore := part.of((Scope{q.caller}).Books(l.state.Names()))
+	rows := []bookRow{}
+	for _, name := range names {
 		err := l.state.Look(name, func(view *state.View) error {
-			rows = append(rows, row{name, view.Position.Made, view.Position.Opens})
+			rows = append(rows, bookRow{name, view.Position.Made, view.Position.Opens})
 			return nil
 		})
 		if err != nil && err != state.ErrNoBook { // (a restore may have taken it away)
@@ -91,8 +101,44 @@ func (l *looks) books(q *request) error {
 	l.end(q, &now)
 	return q.say(http.StatusOK, struct {
 		freshness
-		Books []row `json:"books"`
-	}{now, rows})
+		Books  []bookRow `json:"books"`
+		IsMore bool      `json:"more,omitempty"`
+	}{now, rows, isMore})
+}
+
+// A namesPart is which names of a list are asked for: those behind a name, and so many; 0: all.
+type namesPart struct {
+	from  string
+	limit int
+}
+
+func partOf(q *request) (part namesPart, err error) {
+	if part.from = q.query.Get("from"); part.from != "" && !isName(part.from) {
+		return part, bad("the parameter \"from\" has to be the name of a book")
+	}
+	if q.query.Get("limit") == "" {
+		return part, nil
+	}
+	limit, err := q.number("limit", math.MaxInt32)
+	if err == nil && limit == 0 {
+		err = bad("the parameter \"limit\" is 1 or more")
+	}
+	part.limit = int(limit)
+	return part, err
+}
+
+// of is that part of names in their order, and whether there are more behind it.
+func (p namesPart) of(names []string) (part []string, isMore bool) {
+	for _, name := range names {
+		if name <= p.from {
+			continue
+		}
+		if p.limit > 0 && len(part) == p.limit {
+			return part, true
+		}
+		part = append(part, name)
+	}
+	return part, false
 }
 
 func (l *looks) bookStatus(q *request) error {

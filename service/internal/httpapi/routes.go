@@ -48,7 +48,7 @@ func (a *API) table() []Route {
 		{"GET", "/rules", Look, 0, "", Timed, rules.show},
 		{"PUT", "/rules", Operate, mostMember, "key since", Timed, rules.change},
 		{"GET", "/matrix", Look, 0, "code", Timed, matrix},
-		{"GET", "/books", Look, 0, "now", Timed, looks.books},
+		{"GET", "/books", Look, 0, "now from limit", Timed, looks.books},
 		{"PUT", "/books/{book}", Operate, mostImage, "key since", Timed, calls.create},
 		{"DELETE", "/books/{book}", Operate, mostCall, "key since", Timed, calls.remove},
 		{"GET", "/books/{book}", Look, 0, "now", Timed, looks.bookStatus},

@@ -102,7 +102,7 @@ func (l *Local) Lead(_ context.Context, id uint64) error {
 }
 
 // LeadAway finds nobody to lead.
-func (l *Local) LeadAway(context.Context) error { return engine.ErrNotMoved }
+func (l *Local) LeadAway(context.Context, bool) error { return engine.ErrNotMoved }
 
 // Remove does not tell what became of it, but of 7, which was removed before, and of 8, which is removed only by force.
 func (l *Local) Remove(_ context.Context, id uint64, isForced bool) (isAgain bool, err error) {

@@ -2,6 +2,7 @@ package raftlog
 
 import (
 	"context"
+	"net/http"
 	"sync/atomic"
 	"time"
 
@@ -10,9 +11,9 @@ import (
 	"lrcman/service/internal/engine"
 )
 
-// LeadAway gives the leadership, if this member has it, to another voter. One that does not take it within an election is passed
-// over for the next one.
-func (n *Node) LeadAway(ctx context.Context) error {
+// LeadAway gives the leadership, if this member has it, to another voter; to one with room on its disk, if that is needed. One that
+// does not take it within an election is passed over for the next one.
+func (n *Node) LeadAway(ctx context.Context, needsRoom bool) error {
 	check := time.NewTicker(leadTime)
 	defer check.Stop()
 	tried := map[uint64]bool{}
@@ -23,6 +24,9 @@ func (n *Node) LeadAway(ctx context.Context) error {
 		}
 		if leader == self && time.Since(asked) > n.cfg.Election {
 			heir := n.heir(tried)
+			for ; needsRoom && heir != raft.None && !n.hasRoom(heir); heir = n.heir(tried) {
+				tried[heir] = true
+			}
 			if heir == raft.None {
 				return engine.ErrNotMoved
 			}
@@ -51,4 +55,31 @@ func (n *Node) heir(tried map[uint64]bool) (heir uint64) {
 		}
 	}
 	return heir
+}
+
+// roomPath is where members ask each other whether they have room on their disks.
+const roomPath = "/lrcmand/room"
+
+// A roomAnswer is what a member answers there.
+type roomAnswer struct {
+	HasRoom bool `json:"room"`
+}
+
+// room answers another member.
+func (p *port) room(w http.ResponseWriter, r *http.Request) *refusal {
+	if why := p.checkGroup(r); why != nil {
+		return why
+	}
+	isFull := p.node.cfg.IsFull
+	answer(w, roomAnswer{isFull == nil || !isFull()})
+	return nil
+}
+
+// hasRoom asks another member.
+func (n *Node) hasRoom(id uint64) bool {
+	n.mu.Lock()
+	member := n.members[id]
+	n.mu.Unlock()
+	var told roomAnswer
+	return n.ask(member.Peer, roomPath, "", n.identity.Group, &told) == nil && told.HasRoom
 }

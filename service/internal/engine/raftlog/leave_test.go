@@ -2,6 +2,7 @@ package raftlog
 
 import (
 	"context"
+	"sync"
 	"testing"
 	"time"
 
@@ -16,18 +17,18 @@ func TestALeaderGivesItsLeadAway(t *testing.T) {
 	cfg, _ := configOf(t, folder, engine.Member{ID: 1}, engine.Member{ID: 1})
 	one, _ := begin(t, cfg)
 	propose(t, one, "alone")
-	if err := one.LeadAway(ctx); err != engine.ErrNotMoved {
+	if err := one.LeadAway(ctx, false); err != engine.ErrNotMoved {
 		t.Error(err)
 	}
 	g := groupOf(t, 3)
 	before := g.leader()
 	propose(t, g.nodes[before], "entry")
-	if err := g.nodes[g.other(before)].LeadAway(ctx); err != nil { // (one that does not lead has nothing to give)
+	if err := g.nodes[g.other(before)].LeadAway(ctx, false); err != nil { // (one that does not lead has nothing to give)
 		t.Error(err)
 	}
 	g.nodes[g.other(before)].Close()
 	begun := time.Now()
-	if err := g.nodes[before].LeadAway(ctx); err != nil {
+	if err := g.nodes[before].LeadAway(ctx, false); err != nil {
 		t.Error(err)
 	}
 	after := g.leader()
@@ -47,4 +48,32 @@ func TestALoopThatTurnsIsSeen(t *testing.T) {
 		t.Error(begun)
 	}
 	eventually(t, "it turns", func() bool { return n.Status().Turned.After(begun) })
+}
+
+// A leader without room gives its lead to a voter that has some, and keeps it where none has.
+func TestALeaderGivesItsLeadToOneWithRoom(t *testing.T) {
+	t.Parallel()
+	ctx, cancel := context.WithTimeout(context.Background(), long)
+	defer cancel()
+	var mu sync.Mutex
+	full := map[uint64]bool{1: true, 2: true, 3: true}
+	g := groupOf(t, 3, func(cfg *Config) {
+		id := cfg.Self.ID
+		cfg.IsFull = func() bool {
+			mu.Lock()
+			defer mu.Unlock()
+			return full[id]
+		}
+	})
+	before := g.leader()
+	if err := g.nodes[before].LeadAway(ctx, true); err != engine.ErrNotMoved || g.leader() != before {
+		t.Errorf("%v, and %d leads", err, g.leader())
+	}
+	heir := g.other(before)
+	mu.Lock()
+	full[heir] = false
+	mu.Unlock()
+	eventually(t, "it leads", func() bool {
+		return g.nodes[before].LeadAway(ctx, true) == nil && g.nodes[heir].Status().Leader == heir
+	})
 }

@@ -45,6 +45,7 @@ type Config struct {
 	Trailing      uint64        // entries that stay behind a snapshot, for members that are a little late
 	Log           *log.Logger
 	Fatal         func(error) // ends the process: after a failed write nobody knows what is on disk
+	IsFull        func() bool // tells other members that the disk of this one has no room; nil: it always has
 	Knobs         Knobs
 }
 

@@ -117,6 +117,8 @@ func (p *port) ServeHTTP(w http.ResponseWriter, r *http.Request) {
 		}
 	case path == knownPath && r.Method == http.MethodGet:
 		why = p.known(w, r)
+	case path == roomPath && r.Method == http.MethodGet:
+		why = p.room(w, r)
 	case path == "" || path == "/": // (where rafthttp's probes arrive, since the addresses have words behind them)
 		answer(w, map[string]bool{"OK": true})
 	case path == rafthttp.RaftPrefix || strings.HasPrefix(path, rafthttp.RaftPrefix+"/"):
