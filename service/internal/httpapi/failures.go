@@ -114,9 +114,11 @@ var failuresOf = []struct {
 	code   string
 }{
 	{state.ErrNoBook, http.StatusNotFound, "no_book"},
+	{state.ErrDiffers, http.StatusServiceUnavailable, "differs"},
 	{book.ErrNotFound, http.StatusNotFound, "not_found"},
 	{book.ErrUndetermined, http.StatusConflict, "undetermined"},
 	{replica.ErrFull, http.StatusTooManyRequests, "too_many_requests"},
+	{replica.ErrLate, http.StatusServiceUnavailable, "busy"},
 	{disk.ErrFull, http.StatusInsufficientStorage, "disk_full"},
 	{engine.ErrNoLeader, http.StatusServiceUnavailable, "no_leader"},
 	{engine.ErrNotMoved, http.StatusServiceUnavailable, "busy"},

@@ -56,8 +56,10 @@ func TestAFileIsCheckedWhileItIsRead(t *testing.T) {
 		if have, _ := os.ReadFile(path); isWhole && !bytes.Equal(text, have) {
 			t.Errorf("%d bytes are read of %d", len(text), len(have))
 		}
-		if v.Close() != nil || v.Close() != nil {
-			t.Errorf("%s: it can't be closed twice", name)
+		for i := 0; i < 2; i++ {
+			if err := v.Close(); err != nil {
+				t.Errorf("%s: closed %d times: %v", name, i+1, err)
+			}
 		}
 	}
 	file, err := os.Open(whole(t))
