@@ -95,7 +95,7 @@ func TestAKeyedItemHasOneSinceInAllProposals(t *testing.T) {
 
 // A key that was forgotten between two proposals of its item does not make the item twice, and nobody is told that nothing was made.
 func TestAnItemIsNotMadeTwiceAfterItsKeyIsForgotten(t *testing.T) {
-	m := newMember(t, nil).run()
+	m := newMember(t, nil)
 	hold, asked := make(chan struct{}), 0
 	m.engine.Change(func(e *testengine.Local) {
 		e.Wrong = func([]byte) (bool, error) {
@@ -108,6 +108,7 @@ func TestAnItemIsNotMadeTwiceAfterItsKeyIsForgotten(t *testing.T) {
 	})
 	e := &forgetful{Engine: m.engine, after: hold, forget: m.forgetKeys}
 	m.replica.cfg.Engine = e
+	m.run()
 	_, err := m.replica.Do(context.Background(), call("place 1", "once"))
 	var unknown *Unknown
 	if !errors.As(err, &unknown) || !unknown.HasKey || unknown.Since != 1 {
