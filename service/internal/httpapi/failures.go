@@ -117,6 +117,7 @@ var failuresOf = []struct {
 	{state.ErrDiffers, http.StatusServiceUnavailable, "differs"},
 	{book.ErrNotFound, http.StatusNotFound, "not_found"},
 	{book.ErrUndetermined, http.StatusConflict, "undetermined"},
+	{replica.ErrLate, http.StatusServiceUnavailable, "busy"},
 	{replica.ErrFull, http.StatusTooManyRequests, "too_many_requests"},
 	{replica.ErrLate, http.StatusServiceUnavailable, "busy"},
 	{disk.ErrFull, http.StatusInsufficientStorage, "disk_full"},

@@ -8,6 +8,7 @@ import (
 
 	"lrcman/service/internal/engine"
 	"lrcman/service/internal/replica"
+	"lrcman/service/internal/state"
 )
 
 // failed is what a request is refused with.
@@ -62,6 +63,7 @@ func TestErrorsByNameHaveTheirStatus(t *testing.T) {
 		{engine.ErrEnded, 503, "ended"},
 		{engine.ErrOutcomeUnknown, 504, "outcome_unknown"},
 		{replica.ErrFull, 429, "too_many_requests"},
+		{state.ErrDiffers, 503, "differs"},
 		{replica.ErrLate, 503, "busy"},
 	} {
 		if fail := failureOf(it.err); fail.Status != it.status || fail.Code != it.code || fail.Maybe != (it.status == 504) {
