@@ -119,7 +119,6 @@ var failuresOf = []struct {
 	{book.ErrUndetermined, http.StatusConflict, "undetermined"},
 	{replica.ErrLate, http.StatusServiceUnavailable, "busy"},
 	{replica.ErrFull, http.StatusTooManyRequests, "too_many_requests"},
-	{replica.ErrLate, http.StatusServiceUnavailable, "busy"},
 	{disk.ErrFull, http.StatusInsufficientStorage, "disk_full"},
 	{engine.ErrNoLeader, http.StatusServiceUnavailable, "no_leader"},
 	{engine.ErrNotMoved, http.StatusServiceUnavailable, "busy"},
