@@ -144,9 +144,12 @@ func (a *alike) step() {
 func (a *alike) replayed(snapshot []byte, begun uint64) {
 	a.t.Helper()
 	q := a.restored(snapshot)
+	defer func() { q.s.closeAll() }()
 	for index := begun + 1; index <= a.index; index++ {
 		if a.r.Intn(15) == 0 { // (it is restarted, and its own snapshot has as much)
+			before := q
 			q = q.restored(q.snapshot())
+			before.s.closeAll()
 		}
 		told, err := q.s.Apply(index, a.payloads[index-1])
 		if err != nil {

@@ -3,6 +3,7 @@ package state
 import (
 	"bytes"
 	"reflect"
+	"strings"
 	"testing"
 
 	"lrcman/service/internal/book"
@@ -59,6 +60,38 @@ func FuzzEntry(f *testing.F) {
 		head, items, err := decode(payload)
 		if err == nil && !bytes.Equal(encode(head, items), payload) {
 			t.Errorf("%q is written otherwise than it was", payload)
+		}
+	})
+}
+
+// closeAll frees the books of a state that nobody uses any more.
+func (s *State) closeAll() {
+	for _, e := range s.books {
+		e.book.Close()
+	}
+}
+
+// No payload makes a member end, but one that makes the group go to what this program lacks.
+func FuzzApply(f *testing.F) {
+	begins := New().Encode([]*Item{{Action: Create, Book: "p0", Nodes: twenty}})
+	f.Add(New().Encode([]*Item{{Action: Call, Book: "p0", Key: "k", Session: 1, Command: book.Command{Kind: book.Tick}}, {Action: Remove, Book: "p0"}}))
+	f.Add(New().Encode([]*Item{{Action: Reopen, Book: "p0", Nodes: twenty}, {Action: ChangeRules, Rules: 7}, {Action: Digest, Book: "p0"}}))
+	f.Add(withRules(book.Rules()+1, &Item{Action: Digest, Book: "p0"}))
+	f.Add(inForm(3, book.Rules(), &Item{Action: Digest, Book: "p0"}))
+	f.Fuzz(func(t *testing.T, payload []byte) {
+		s := New()
+		defer s.closeAll()
+		if _, err := s.Apply(1, begins); err != nil {
+			t.Fatal(err)
+		}
+		if _, err := s.Apply(2, payload); err != nil && (s.Change().Rules == s.Rules() || !strings.Contains(err.Error(), "nothing of it was taken")) {
+			t.Error(err)
+		}
+		var text bytes.Buffer
+		if err := s.Freeze()(&text); err != nil {
+			t.Error(err)
+		} else if err := s.Verify(&text); err != nil && s.Change().Rules == s.Rules() {
+			t.Error(err)
 		}
 	})
 }

@@ -283,14 +283,15 @@ func TestAnEntryThatCantBeTakenApartIsRefused(t *testing.T) {
 	marked := call(t, "tick")
 	marked.At = &Position{0, opening(1)}
 	payload := New().Encode([]*Item{marked, call(t, "tick")})
-	mark := bytes.LastIndexByte(payload[:len(payload)/2+20], 1)
+	wrongMark := New().Encode([]*Item{call(t, "tick")})
+	wrongMark[len(wrongMark)-1] = 2 // (neither a place where the book has to stand, nor none)
 	for _, it := range []struct {
 		payload []byte
 		count   int
 	}{
 		{nil, 0}, {[]byte{7, 'x'}, 0}, {[]byte{Form}, 0}, {payload[:len(payload)-1], 2}, {append(append([]byte{}, payload...), 0), 2},
 		{New().Encode(times(call(t, "tick"), MostItems+1)), MostItems}, {[]byte{Form, 1, 0, 0, 0, 255, 255, 255, 255}, MostItems},
-		{append(append(append([]byte{}, payload[:mark]...), 2), payload[mark+1:]...), 2},
+		{wrongMark, 1},
 	} {
 		p.index++
 		told, err := p.s.Apply(p.index, it.payload)
