@@ -56,11 +56,16 @@ class Told:
             count.check(f"{when}: member {member.number} has {answer.get('n')} of {self.told[-1][0]}", is_there and not missing)
 
 
+def status_of(words):
+    """To start a folder again that the group does not take changes nothing."""
+    return 3 if "lost" in words or "older copy" in words or "started again" in words else 1
+
+
 def refused(count, what, member, words, limit=30):
     """A member that was just started has to end, with words."""
     status = member.ended(limit)
     said = member.said()
-    return count.check(f"{what} is refused: status {status}: {said[-500:]}", status in (1, 3) and words in said)
+    return count.check(f"{what} is refused: status {status}: {said[-500:]}", status == status_of(words) and words in said)
 
 
 def with_line(group, member, is_new):

@@ -16,7 +16,7 @@ import (
 const (
 	statusFault   = 1 // a fault ended it
 	statusUsage   = 2 // the command line, a file or an address is refused
-	statusRemoved = 3 // it was removed from its group
+	statusRemoved = 3 // it was removed from its group, or its folder is not taken there
 )
 
 func main() {

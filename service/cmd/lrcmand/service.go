@@ -3,6 +3,7 @@ package main
 import (
 	"context"
 	"crypto/tls"
+	"errors"
 	"net"
 	"net/http"
 	"os"
@@ -56,7 +57,7 @@ func startService(o *options, logger *logging.Logger) (*service, int) {
 	node, err := raftlog.Start(cfg, books)
 	if err != nil {
 		logger.Error(err.Error())
-		return nil, statusFault
+		return nil, statusOf(err)
 	}
 	s := newService(o, logger, node, books, knobs.replica, ports)
 	go serve(s.server, ports.clients.last(), ports.tls(), logger)
@@ -203,7 +204,11 @@ func (s *service) wait() int {
 func (s *service) whyEnded() int {
 	err := s.engine.Err()
 	s.log.Error("member ends", "error", err)
-	if err == engine.ErrRemoved {
+	return statusOf(err)
+}
+
+func statusOf(err error) int {
+	if err == engine.ErrRemoved || errors.Is(err, engine.ErrLost) {
 		return statusRemoved
 	}
 	return statusFault

@@ -72,6 +72,8 @@ var (
 	ErrEnded = errors.New("this member has ended")
 	// ErrRemoved says that a member ended since it is no longer one of the group.
 	ErrRemoved = errors.New("this member was removed from its group")
+	// ErrLost says that the group knows another folder of this member, or a later start of it.
+	ErrLost = errors.New("the group does not take the folder of this member")
 	// ErrDamaged says that a snapshot is not as it was written.
 	ErrDamaged = errors.New("the snapshot is damaged")
 	// ErrBusy says that nothing was begun: a snapshot is being written already, or too much waits to be committed or applied.

@@ -395,10 +395,10 @@ func endsRefused(t *testing.T, cfg Config, words string) {
 	case <-time.After(long):
 		t.Fatal("it goes on")
 	}
-	if err := n.Err(); err == nil || !strings.Contains(err.Error(), words) {
+	if err := n.Err(); !errors.Is(err, engine.ErrLost) || !strings.Contains(err.Error(), words) {
 		t.Errorf("%v", err)
 	}
-	if _, err := Start(cfg, &list{}); err == nil || !strings.Contains(err.Error(), "is not started again: "+words) {
+	if _, err := Start(cfg, &list{}); !errors.Is(err, engine.ErrLost) || !strings.Contains(err.Error(), "is not started again: "+words) {
 		t.Errorf("the next start: %v", err)
 	}
 }

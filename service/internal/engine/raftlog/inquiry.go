@@ -19,8 +19,9 @@ import (
 const (
 	askTime      = time.Second      // for an answer of another member
 	doubtTime    = time.Second      // between two questions while the others may not take this member
-	calmTime     = 10 * time.Second // between two questions else
-	vouchingTime = time.Second      // between two questions about a stranger
+	calmTime     = 10 * time.Second // between two questions else, and between two lines of one kind
+	askPause     = 200 * time.Millisecond
+	vouchingTime = time.Second // between two questions about a stranger
 )
 
 // newAsker is a client for questions to other members, over their TLS.
@@ -59,51 +60,62 @@ func (n *Node) ask(address, path, query string, group uint64, into interface{}) 
 // watch ends this member once its group does not take it any more. That a single port says so is not enough: after a member any
 // web server may listen there.
 func (n *Node) watch() {
-	at, hasSaid, begun := time.Duration(0), time.Time{}, atomic.LoadUint64(&n.commit)
-	for atomic.LoadUint64(&n.applied) < begun { // (else it does not know yet who the others are)
-		select {
-		case <-time.After(time.Millisecond):
-		case <-n.stop:
-			return
+	if !n.waitForMembers() {
+		return
+	}
+	said := map[string]time.Time{}
+	say := func(words string) {
+		if time.Since(said[words]) > calmTime {
+			said[words] = time.Now()
+			n.cfg.Log.Print(words)
 		}
 	}
 	for {
-		isTold := false
-		select {
-		case <-n.peers.ErrorC: // others tell that this member was removed
-			isTold = true
-		case <-time.After(at):
-		case <-n.stop:
-			return
-		}
 		others := n.others()
 		known, against := n.inquire(others)
 		if found, isSure := n.sum(against, len(others)); isSure {
 			n.endRefused(found)
 			return
 		}
-		n.setDoubted(against[isLost]+against[isOld] > 0)
-		if isTold && time.Since(hasSaid) > calmTime {
-			hasSaid = time.Now()
-			n.cfg.Log.Printf("at the address of a member it is said that this one was removed; the group does not confirm it")
-		}
-		at = doubtTime
-		if atomic.LoadUint64(&n.lead) != raft.None && 2*known >= len(others) {
-			at = calmTime
+		if n.setDoubted(against[isLost]+against[isOld] > 0) {
+			say("a member knows another folder, or a later start, under this number: this one takes no part until more answer")
 		}
 		if n.hasUnsavedStarts() {
 			n.saveStarts()
 		}
+		pause := doubtTime
+		if atomic.LoadUint64(&n.lead) != raft.None && 2*known >= len(others) {
+			pause = calmTime
+		}
+		select {
+		case <-n.peers.ErrorC: // it may be told ten times a second
+			say("at the address of a member it is said that this one was removed; now the others are asked")
+			time.Sleep(askPause)
+		case <-time.After(pause):
+		case <-n.stop:
+			return
+		}
 	}
 }
 
-func (n *Node) setDoubted(is bool) {
+// waitForMembers waits until the members of the log are known.
+func (n *Node) waitForMembers() bool {
+	for begun := atomic.LoadUint64(&n.commit); atomic.LoadUint64(&n.applied) < begun; {
+		select {
+		case <-time.After(time.Millisecond):
+		case <-n.stop:
+			return false
+		}
+	}
+	return true
+}
+
+// setDoubted returns whether this member takes no part from now on.
+func (n *Node) setDoubted(is bool) bool {
 	n.mu.Lock()
 	defer n.mu.Unlock()
-	if is && !n.isDoubted {
-		n.cfg.Log.Print("a member knows another folder, or a later start, under this number: this one takes no part until more answer")
-	}
 	n.isDoubted = is
+	return is
 }
 
 // takesPart tells whether messages of this member count. At a start it asks first.
@@ -174,11 +186,12 @@ func (n *Node) endRefused(found verdict) {
 		n.end(engine.ErrRemoved)
 		return
 	}
-	n.identity.Refused = wordsOf(found)
-	if err := n.identity.write(n.cfg.Dir, n.syncFolder); err != nil {
+	it := n.identity
+	it.Refused = wordsOf(found)
+	if err := it.write(n.cfg.Dir, n.syncFolder); err != nil {
 		n.cfg.Log.Printf("the folder can't be marked: %v", err)
 	}
-	n.end(errors.New(n.identity.Refused))
+	n.end(lost(it.Refused))
 }
 
 // isVouchedFor asks the members that this one knows about one that it does not: it may be behind, and the other one was added

@@ -59,7 +59,7 @@ func (n *Node) checkIdentity() error {
 	case it.Member != n.cfg.Self.ID || it.Name != n.cfg.Name:
 		return fmt.Errorf("%w: it is of member %d of the group %q", errNotMember, it.Member, it.Name)
 	case it.Refused != "":
-		return fmt.Errorf("this folder is not started again: %s", it.Refused)
+		return lost("this folder is not started again: " + it.Refused)
 	}
 	return nil
 }
@@ -207,11 +207,11 @@ func (n *Node) checkIntroduction(member engine.Member, its *introduction) error 
 	}
 	for _, it := range its.First {
 		if it.ID == n.cfg.Self.ID && it.Folder != n.identity.Folder {
-			return fmt.Errorf("member %d has begun: %s", member.ID, lostWords)
+			return lost(fmt.Sprintf("member %d has begun: %s", member.ID, lostWords))
 		}
 	}
 	if its.Begun && its.First == nil {
-		return fmt.Errorf("member %d has begun, and not with this one: %s", member.ID, lostWords)
+		return lost(fmt.Sprintf("member %d has begun, and not with this one: %s", member.ID, lostWords))
 	} else if its.List != sumOfList(n.cfg.Name, n.cfg.Members) {
 		return fmt.Errorf("member %d at %s was started with another --members or --group than this one", member.ID, member.Peer)
 	}
@@ -254,10 +254,12 @@ func (n *Node) takeInvitation(it invitation) (why string, err error) {
 		return fmt.Sprintf("member %d speaks to it, and does not answer: %v", it.from, err), nil
 	}
 	switch {
+	case answer.Member != it.from:
+		return fmt.Sprintf("at the address of member %d answers %d", it.from, answer.Member), nil
 	case answer.Name != n.cfg.Name:
 		return fmt.Sprintf("member %d is of the group %q", it.from, answer.Name), nil
 	case answer.Verdict == isLost || answer.Verdict == isOld:
-		return "", errors.New(wordsOf(answer.Verdict))
+		return "", lost(wordsOf(answer.Verdict))
 	case answer.Verdict == isRemoved:
 		return "", engine.ErrRemoved
 	case answer.Verdict != isKnown:
@@ -265,6 +267,14 @@ func (n *Node) takeInvitation(it invitation) (why string, err error) {
 	}
 	return "", n.takeGroup(it.group, nil)
 }
+
+// A lost error tells that the group does not take a folder: to start it again changes nothing.
+type lost string
+
+func (l lost) Error() string { return string(l) }
+
+// Is tells what it is.
+func (lost) Is(other error) bool { return other == engine.ErrLost }
 
 func wordsOf(found verdict) string {
 	if found == isOld {
