@@ -28,10 +28,9 @@ func TestALoneMemberSaysThatItBeginsANewGroup(t *testing.T) {
 	}
 	propose(t, n, "entry 1")
 	n.Close()
-	said := words.String()
 	n, _ = begin(t, cfg)
 	barrier(t, n)
-	if words.String() != said {
+	if strings.Count(words.String(), "begins a new group") != 1 {
 		t.Errorf("and then: %q", words)
 	}
 	if members := n.Status().Members; len(members) != 1 || members[0].Folder != n.identity.Folder || members[0].Folder == 0 {

@@ -185,7 +185,9 @@ func (n *Node) loadSnapshot() (*raftpb.Snapshot, error) {
 	}
 	newest := uint64(0)
 	for _, record := range known {
-		newest = record.Index // (they rise)
+		if record.Index > newest { // (one that came while another was written may stand before it)
+			newest = record.Index
+		}
 	}
 	for {
 		found, err := n.snaps.LoadNewestAvailable(known) // (it renames what is damaged)

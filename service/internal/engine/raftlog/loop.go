@@ -62,6 +62,7 @@ func (n *Node) tick() {
 	if len(n.conf.Voters) == 1 && n.conf.Voters[0] == n.cfg.Self.ID && atomic.LoadUint64(&n.lead) == raft.None {
 		n.raft.Campaign(context.Background()) // alone: there is no one to wait for
 	}
+	n.sayContacts(time.Now())
 }
 
 // must ends the process: after a failed write nobody knows what is on the disk, and a member that goes on may break what it
@@ -129,16 +130,17 @@ func (n *Node) isDue() bool {
 }
 
 func (n *Node) note(ready raft.Ready) {
+	if !raft.IsEmptyHardState(ready.HardState) {
+		atomic.StoreUint64(&n.term, ready.HardState.Term)
+		atomic.StoreUint64(&n.commit, ready.HardState.Commit)
+	}
 	if ready.SoftState != nil {
 		before := atomic.SwapUint64(&n.lead, ready.SoftState.Lead)
 		if before != ready.SoftState.Lead && before != raft.None {
 			n.failLost() // whoever waits asks again
 		}
 		n.isLeader = ready.SoftState.RaftState == raft.StateLeader
-	}
-	if !raft.IsEmptyHardState(ready.HardState) {
-		atomic.StoreUint64(&n.term, ready.HardState.Term)
-		atomic.StoreUint64(&n.commit, ready.HardState.Commit)
+		n.sayRole(before, ready.SoftState, atomic.LoadUint64(&n.term))
 	}
 }
 

@@ -254,6 +254,7 @@ func (n *Node) applyChange(entry *raftpb.Entry) bool {
 	if !isMade {
 		return true
 	}
+	n.sayChange(entry.Index, change.Type, id, wish.Member)
 	n.connect(change.Type, id, wish.Member)
 	if change.Type == raftpb.ConfChangeRemoveNode && id == n.cfg.Self.ID {
 		n.end(engine.ErrRemoved)

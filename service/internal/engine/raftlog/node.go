@@ -74,7 +74,8 @@ type Node struct {
 	numbers *numbers
 	zap     *zap.Logger
 	applier *applier
-	seldom  *log.Logger // to cfg.Log, for what others can cause as often as they like
+	// To cfg.Log, for what others can cause as often as they like, and for what strangers at the members' port can.
+	seldom, strangers *log.Logger
 
 	turned                      int64  // atomic: when the loop turned last, in nanoseconds since 1970
 	lead, term, commit, applied uint64 // atomic
@@ -105,12 +106,14 @@ type Node struct {
 	// What follows is of the loop.
 	conf      raftpb.ConfState
 	isLeader  bool
-	changed   []changeOutcome // changes of members that nobody was told of yet
-	handed    uint64          // the last entry that the applier has got
-	unsnapped uint64          // bytes of entries that are in no snapshot yet
-	isSaving  bool            // a snapshot is being written
-	frozen    uint64          // bytes of entries that are in that one and in none before
-	retryAt   time.Time       // no snapshot before
+	changed   []changeOutcome    // changes of members that nobody was told of yet
+	known     uint64             // the last entry whose changes of members were known at the start
+	contacts  map[uint64]contact // what was said of other members
+	handed    uint64             // the last entry that the applier has got
+	unsnapped uint64             // bytes of entries that are in no snapshot yet
+	isSaving  bool               // a snapshot is being written
+	frozen    uint64             // bytes of entries that are in that one and in none before
+	retryAt   time.Time          // no snapshot before
 	marked    mark
 	markFile  *os.File
 
@@ -147,8 +150,8 @@ func Start(cfg Config, machine engine.Machine) (*Node, error) {
 }
 
 func newNode(cfg Config, machine engine.Machine) *Node {
-	return &Node{cfg: cfg, machine: machine, storage: raft.NewMemoryStorage(), applier: newApplier(),
-		seldom: ratelog.New(cfg.Log, 10, 10*time.Second), spoilt: make(chan raftpb.SnapshotMetadata), waiting: map[uint64]chan outcome{},
+	return &Node{cfg: cfg, machine: machine, storage: raft.NewMemoryStorage(), applier: newApplier(), contacts: map[uint64]contact{},
+		seldom: ratelog.New(cfg.Log, 10, 10*time.Second), strangers: ratelog.New(cfg.Log, 10, time.Minute), spoilt: make(chan raftpb.SnapshotMetadata), waiting: map[uint64]chan outcome{},
 		reads: map[uint64]chan uint64{}, members: map[uint64]engine.Member{}, removed: map[uint64]bool{},
 		heard: heard{at: map[uint64]time.Time{}}, starts: map[uint64]heardStart{}, vouched: map[uint64]start{},
 		hearings: make(chan hearing), round: newRound(), readers: make(chan struct{}, 1), snapshots: make(chan chan error),
@@ -168,6 +171,10 @@ func (n *Node) begin() (err error) {
 	isOld, err := n.openLog()
 	if err != nil {
 		return err
+	}
+	n.known = atomic.LoadUint64(&n.commit)
+	if !isOld {
+		n.known = uint64(len(n.cfg.Members))
 	}
 	n.isDoubted = isOld // until the others were asked
 	n.startRaft(isOld)  // before the peers, whose messages go to it

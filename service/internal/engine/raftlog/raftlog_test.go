@@ -13,6 +13,7 @@ import (
 	"os"
 	"path/filepath"
 	"reflect"
+	"runtime"
 	"strings"
 	"sync"
 	"testing"
@@ -151,7 +152,7 @@ func configOf(t *testing.T, folder string, self engine.Member, members ...engine
 		Election: 300 * time.Millisecond, SnapshotEvery: 1000, SnapshotBytes: 1 << 30, Trailing: 100,
 		Log: log.New(words, "", 0), Fatal: func(err error) {
 			t.Errorf("member %d: %v", self.ID, err)
-			select {} // (it never returns)
+			runtime.Goexit() // (it never returns)
 		}}, words
 }
 

@@ -79,6 +79,7 @@ func (n *Node) trySnapshot() error {
 	n.isSaving = true
 	n.frozen, n.unsnapped = n.unsnapped, 0
 	index, conf, head := n.handed, n.conf, n.head()
+	n.cfg.Log.Printf("a snapshot at %d is begun, %d entries and %d bytes behind the last", index, index-atomic.LoadUint64(&n.saved), n.frozen)
 	n.applier.add(func() { n.freeze(index, conf, head) })
 	return nil
 }
@@ -94,6 +95,7 @@ func (n *Node) hasWritten(err error) {
 }
 
 func (n *Node) write(index uint64, conf raftpb.ConfState, head head, write func(io.Writer) error) error {
+	begun := time.Now()
 	if err := n.writeFile(n.fileOf(index), head, write); err != nil {
 		return err
 	}
@@ -108,10 +110,20 @@ func (n *Node) write(index uint64, conf raftpb.ConfState, head head, write func(
 	}
 	n.record(made)
 	atomic.StoreUint64(&n.saved, index)
+	n.cfg.Log.Printf("the snapshot at %d was written in %v, %d bytes", index, since(begun), n.sizeOf(index))
 	if err := n.compact(index); err != nil {
 		return err
 	}
 	return n.purge()
+}
+
+// sizeOf is the number of bytes of a snapshot's file; 0 if there is none.
+func (n *Node) sizeOf(index uint64) int64 {
+	info, err := os.Stat(n.fileOf(index))
+	if err != nil {
+		return 0
+	}
+	return info.Size()
 }
 
 // compact forgets the entries that are in a snapshot, but for some that members who are a little late still need: at most so many,
@@ -349,7 +361,8 @@ func (n *Node) hasWhole(message *raftpb.Message) bool {
 	m, begun := message.Snapshot.Metadata, time.Now()
 	err := n.check(m)
 	if err == nil {
-		n.cfg.Log.Printf("the snapshot at %d came from member %d and was checked in %v", m.Index, message.From, since(begun))
+		n.cfg.Log.Printf("the snapshot at %d came from member %d, %d bytes, and was checked in %v", m.Index, message.From, n.sizeOf(m.Index),
+			since(begun))
 		return true
 	}
 	n.seldom.Printf("a snapshot at %d from member %d is refused: %v", m.Index, message.From, err)

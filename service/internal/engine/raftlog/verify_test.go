@@ -88,7 +88,7 @@ func TestASnapshotThatIsDamagedOnTheLeadersDiskIsReplaced(t *testing.T) {
 			g := groupOf(t, 3, func(cfg *Config) { cfg.Trailing = 5 })
 			propose(t, g.nodes[1], "entry 1")
 			away := g.other(g.leader())
-			words := g.says()
+			words, sender := g.says(), g.leader()
 			g.cutBehind(away, 2, 60)
 			for id := range g.nodes { // (whoever leads)
 				damage(g.nodes[id].fileOf(g.nodes[id].Status().Snapshot))
@@ -101,10 +101,26 @@ func TestASnapshotThatIsDamagedOnTheLeadersDiskIsReplaced(t *testing.T) {
 			if name != "gone" && !strings.Contains(words.String(), "on this disk can't be sent") {
 				t.Errorf("said: %q", words)
 			}
+			if leads := g.leader(); leads == sender { // (else another one has sent it)
+				expectStored(t, g.nodes[leads])
+			}
 			propose(t, g.nodes[away], "entry 61")
 			g.alike(texts(1, 61))
 		})
 	}
+}
+
+// expectStored expects that the last snapshot can be begun in.
+func expectStored(t *testing.T, n *Node) {
+	t.Helper()
+	eventually(t, "the snapshot is there again", func() bool {
+		last, err := n.storage.Snapshot()
+		if err != nil || n.check(last.Metadata) != nil {
+			return false
+		}
+		found, err := n.indexesOf()
+		return err == nil && len(found) > 0 && found[len(found)-1] == last.Metadata.Index
+	})
 }
 
 // post sends a message with the file of a snapshot to a member, as another one does.
