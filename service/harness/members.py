@@ -13,7 +13,7 @@ from one_member import wait_ready
 from work import Run, Work, asked_for, entries_of, filled, make_books
 
 WORDS = ["--election", "400ms", "--snapshot-every", "150", "--trailing", "20", "--tick", "0", "--timeout", "5s"]
-LAG = 100  # so many entries a member may lack that comes to vote
+LAG = 1000  # so many entries a member may lack that comes to vote
 PAGE = os.path.join(harness.TOP, "docs", "SERVICE.md")
 
 
@@ -294,14 +294,22 @@ def test_recover(count, program, room, nodes, topology):
 
 
 class Recipe:
-    """The lines of shell of a section of docs/SERVICE.md, with folders and addresses of a test in them."""
+    """Lines of shell of docs/SERVICE.md, with folders and addresses of a test in them."""
 
-    def __init__(self, title, program, room):
+    def __init__(self, begin, end, program, room):
         with open(PAGE, encoding="utf-8") as file:
-            section = file.read().split(f"\n## {title}\n")[1].split("\n## ")[0]
-        self.blocks = [block.split("\n```")[0] for block in section.split("```sh\n")[1:]]
-        self.program, self.room, self.group, self.running = program, room, Group(program, room, 0), []
-        self.hosts = {}
+            part = file.read().split(begin)[1].split(end)[0]
+        self.blocks = [block.split("\n```")[0].splitlines() for block in part.split("```sh\n")[1:]]
+        self.program, self.room, self.running = program, room, []
+        self.group, self.hosts, self.asker = Group(program, room, 0), {}, Asker(5)
+
+    def __enter__(self):
+        return self
+
+    def __exit__(self, *_):
+        for process in self.running:
+            process.kill()
+            process.wait()
 
     def host(self, number):
         return self.hosts.setdefault(number, Member(self.group, number, []))
@@ -309,55 +317,52 @@ class Recipe:
     def line(self, text):
         text = re.sub(r"\bh(\d):7421", lambda it: f"127.0.0.1:{self.host(int(it.group(1))).client}", text)
         text = re.sub(r"\bh(\d):7422", lambda it: f"127.0.0.1:{self.host(int(it.group(1))).peer}", text)
-        text = re.sub(r"/var/lib/lrcmand", self.room, text).replace(" ...", " --election 400ms --tick 0")
-        return re.sub(r"^lrcmand", self.program, text)
+        text = text.replace("/var/lib/lrcmand", self.room).replace("--data DIR", f"--data {self.room}/4")
+        return re.sub(r"^lrcmand", self.program, text.replace(" ...", " --election 400ms --tick 0"))
 
     def run(self, count, text):
-        line = self.line(text)
-        if text.startswith("lrcmand --data"):
+        if text.startswith("systemctl stop"):
+            self.__exit__()
+        elif not text.startswith("lrcmand --data"):
+            return count.run(text, "bash", "-c", self.line(text), cwd=self.room, timeout=60)
+        else:
             with open(f"{self.room}/said", "ab") as said:
-                self.running.append(subprocess.Popen(shlex.split(line), stdout=said, stderr=said))
-            return wait_until_ready(self.hosts_of(text))
-        return count.run(text, "bash", "-c", line, cwd=self.room, timeout=60)
+                self.running.append(subprocess.Popen(shlex.split(self.line(text)), stdout=said, stderr=said))
+        return None
 
-    def hosts_of(self, text):
-        return self.host(int(re.search(r"--listen h(\d)", text).group(1)))
+    def run_block(self, count, number):
+        for text in self.blocks[number]:
+            self.run(count, text)
 
-    def end(self):
-        for process in self.running:
-            process.kill()
-            process.wait()
+    def has_book(self, count, number):
+        status = asked_for(lambda: self.asker.ask(self.host(number).client, "GET", "/books/p0?now=1")[:2], [200], 20)[0]
+        count.check(f"the book is there at host {number}: {status}", status == 200)
 
-
-def wait_until_ready(member):
-    """One that was added answers before it is well, and one that begins is well soon."""
-    asker, end = Asker(3), time.monotonic() + 20
-    while asker.ask(member.client, "GET", "/status")[0] != 200 and time.monotonic() < end:
-        time.sleep(0.02)
+    def begin_alone(self, count, topology):
+        self.run(count, "lrcmand --data /var/lib/lrcmand/1 --id 1 --listen h1:7421 --peer h1:7422 ...")
+        asked_for(lambda: self.asker.ask(self.host(1).client, "PUT", "/books/p0", topology)[:2], [200], 20)
+        self.has_book(count, 1)
 
 
 def test_recipes(count, program, room, topology):
-    """The recipes of the page, word for word: a backup is restored, and a member goes on alone."""
+    """The recipes of the page, word for word: a member comes and goes; a backup is restored; and a member goes on alone."""
     if not shutil.which("curl"):
         print("left out: recipes of the page: there is no curl", flush=True)
         return
-    recipe = Recipe("Backup, restore, and a lost majority", program, f"{room}/recipes")
-    asker = Asker(5)
-    try:
-        one = recipe.host(1)
-        recipe.run(count, "lrcmand --data /var/lib/lrcmand/1 --id 1 --listen h1:7421 --peer h1:7422 ...")
-        asked_for(lambda: asker.ask(one.client, "PUT", "/books/p0", topology)[:2], [200], 20)
-        for block in recipe.blocks:
-            for line in block.replace("\\\n", "").splitlines():
-                if line.startswith("systemctl"):
-                    recipe.end()
-                else:
-                    recipe.run(count, re.sub(r" +#.*", "", line))
-        for number in (5, 1):
-            status = asked_for(lambda: asker.ask(recipe.host(number).client, "GET", "/books/p0?now=1")[:2], [200], 20)[0]
-            count.check(f"the book is there at host {number}: {status}", status == 200 or number == 5)
-    finally:
-        recipe.end()
+    with Recipe("**A member comes.**", "| Option |", program, f"{room}/members") as recipe:
+        recipe.begin_alone(count, topology)
+        recipe.run_block(count, 0)
+        await_row(count, "it votes", recipe.group, recipe.host(1), 4, votes)
+        recipe.has_book(count, 4)
+        recipe.run_block(count, 1)
+        count.check("it ends", recipe.running[-1].wait(20) == 3)
+    with Recipe("\n## Backup, restore, and a lost majority\n", "\n## ", program, f"{room}/recipes") as recipe:
+        recipe.begin_alone(count, topology)
+        recipe.run_block(count, 0)
+        recipe.run_block(count, 1)
+        recipe.has_book(count, 5)
+        recipe.run_block(count, 2)
+        recipe.has_book(count, 1)
 
 
 def test_members(count, program, room, nodes):

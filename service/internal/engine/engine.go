@@ -56,6 +56,8 @@ type Status struct {
 	Applied  uint64   `json:"applied"`
 	Snapshot uint64   `json:"snapshot"` // the index of the last one
 	First    uint64   `json:"first"`    // the first entry that this member still sends to others
+	Last     uint64   `json:"last"`     // the last entry of its log, which may not be committed
+	LastTerm uint64   `json:"last_term"`
 	Members  []Member `json:"members"`
 	// When the loop of the log last turned; zero: unknown.
 	Turned time.Time `json:"-"`

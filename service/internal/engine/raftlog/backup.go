@@ -51,7 +51,7 @@ type backupHead struct {
 // and the entries behind that stay in memory, however slowly they are written.
 func (n *Node) Backup(ctx context.Context) (*engine.Backup, error) {
 	for {
-		file, entries, head, err := n.takeBackup()
+		file, entries, head, err := n.takeBackup(ctx)
 		if err == nil {
 			return &engine.Backup{Index: head.Index, Close: func() { file.Close() },
 				Write: func(w io.Writer) error { return writeBackup(w, head, file, entries) }}, nil
@@ -63,7 +63,7 @@ func (n *Node) Backup(ctx context.Context) (*engine.Backup, error) {
 }
 
 // takeBackup takes the last snapshot and the entries behind it. An error says that there is no snapshot, or that it is gone.
-func (n *Node) takeBackup() (file *os.File, entries []raftpb.Entry, head backupHead, err error) {
+func (n *Node) takeBackup(ctx context.Context) (file *os.File, entries []raftpb.Entry, head backupHead, err error) {
 	saved := atomic.LoadUint64(&n.saved)
 	if saved == 0 {
 		return nil, nil, head, errors.New("there is no snapshot yet")
@@ -71,9 +71,10 @@ func (n *Node) takeBackup() (file *os.File, entries []raftpb.Entry, head backupH
 	if file, err = n.openWhole(saved); err != nil {
 		return nil, nil, head, err
 	}
-	// What is applied from here on was applied after the file was written.
+	// The books in the file have come no further than to what is committed by now, and may be in the middle of that.
+	err = n.waitApplied(ctx, atomic.LoadUint64(&n.commit))
 	applied := atomic.LoadUint64(&n.applied)
-	if applied > saved {
+	if err == nil && applied > saved {
 		entries, err = n.storage.Entries(saved+1, applied+1, 1<<62)
 	}
 	if err == nil && uint64(len(entries)) != applied-saved {

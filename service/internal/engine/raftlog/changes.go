@@ -9,12 +9,14 @@ import (
 
 	"go.etcd.io/etcd/raft"
 	"go.etcd.io/etcd/raft/raftpb"
+	"go.etcd.io/etcd/raft/tracker"
 
 	"lrcman/service/internal/engine"
 )
 
-// mostLag is how many entries a member may lack when it comes to vote: so few that it has them soon.
-const mostLag = 100
+// mostLag is how many entries a member may lack when it comes to vote: so few that it has them soon, and more than are under way
+// at any time.
+const mostLag = 1000
 
 // heard is when each member was last heard of.
 type heard struct {
@@ -148,10 +150,13 @@ func (n *Node) checkReady(id uint64) error {
 	if progress.Match < status.Commit {
 		lacks = status.Commit - progress.Match
 	}
-	if lacks > mostLag {
-		return engine.Refused(fmt.Sprintf("member %d lacks %d entries, and may vote once it lacks no more than %d", id, lacks, mostLag))
-	} else if !n.isHeard(id) {
+	switch {
+	case !n.isHeard(id):
 		return engine.Refused(fmt.Sprintf("member %d lacks %d entries, and was not heard of for %v", id, lacks, n.cfg.Election))
+	case lacks > mostLag:
+		return engine.Refused(fmt.Sprintf("member %d lacks %d entries, and may vote once it lacks no more than %d", id, lacks, mostLag))
+	case progress.State != tracker.StateReplicate: // (it may lack a snapshot: few entries, and large ones)
+		return engine.Refused(fmt.Sprintf("member %d lacks %d entries, and does not follow yet", id, lacks))
 	}
 	return nil
 }

@@ -143,12 +143,31 @@ func TestAddressesWhereNobodyListensDoNotStrandAGroup(t *testing.T) {
 	proposeAll(t, g.nodes[1], texts(5, mostLag+20))
 	all := g.nodes[g.leader()].Status().Members[5]
 	all.Learner = false
-	g.refused(adding(all), "and may vote once it lacks no more than 100")
+	g.nodes[g.leader()].heard.note(7) // (as if it spoke, and had nothing)
+	g.refused(adding(all), "and may vote once it lacks no more than 1000")
 	for id := uint64(5); id <= 7; id++ {
 		g.expectLearner(id, true)
 		g.must(removing(id))
 	}
 	g.alike(texts(1, mostLag+20))
+}
+
+// One that has all, and is not there now, would be no help to a majority.
+func TestALearnerThatIsAwayDoesNotComeToVote(t *testing.T) {
+	t.Parallel()
+	g := groupOf(t, 1)
+	propose(t, g.nodes[1], "entry 1")
+	member := learner(memberAt(t, 2))
+	g.must(adding(member))
+	g.join(member)
+	g.alike(texts(1, 1))
+	g.nodes[2].Close()
+	delete(g.nodes, 2)
+	eventually(t, "it is not heard of any more", func() bool { return !g.nodes[1].isHeard(2) })
+	member.Learner = false
+	g.refused(adding(member), "was not heard of for")
+	g.expectLearner(2, true)
+	propose(t, g.nodes[1], "entry 2")
 }
 
 // The wish that a member votes stands in the log: the leader that is there when it has all makes it vote.

@@ -315,13 +315,12 @@ func (n *Node) failAll() {
 
 // Status is how this member sees the group now.
 func (n *Node) Status() engine.Status {
-	first, err := n.storage.FirstIndex()
-	if err != nil {
-		first = 0
-	}
+	first, _ := n.storage.FirstIndex() // (in memory: never an error)
+	last, _ := n.storage.LastIndex()
+	lastTerm, _ := n.storage.Term(last) // (0 where a snapshot came meanwhile)
 	return engine.Status{ID: n.cfg.Self.ID, Leader: atomic.LoadUint64(&n.lead), Term: atomic.LoadUint64(&n.term),
 		Commit: atomic.LoadUint64(&n.commit), Applied: atomic.LoadUint64(&n.applied), Snapshot: atomic.LoadUint64(&n.saved),
-		First: first, Members: n.sorted(), Turned: time.Unix(0, atomic.LoadInt64(&n.turned))}
+		First: first, Last: last, LastTerm: lastTerm, Members: n.sorted(), Turned: time.Unix(0, atomic.LoadInt64(&n.turned))}
 }
 
 // Snapshot begins to write one now. The loop may wait for the disk meanwhile.

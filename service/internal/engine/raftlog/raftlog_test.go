@@ -887,13 +887,27 @@ func (g *group) removeLeader() uint64 {
 	return gone
 }
 
-// A change that is asked for as soon as the last one is told is made, or refused: raft takes only one at a time.
+// A change that is asked for as soon as the last one is told is made, or refused: raft takes only one at a time, and makes an empty
+// entry of another one.
 func TestChangesOfMembersFollowAtOnce(t *testing.T) {
 	t.Parallel()
-	g := groupOf(t, 3)
+	g := groupOf(t, 3, func(cfg *Config) { cfg.Election = 3 * time.Second }) // (none is proposed twice within it)
 	propose(t, g.nodes[1], "entry 1")
-	for round := 0; round < 30; round++ {
+	for _, n := range g.nodes {
+		eventually(t, "all have told their folders", func() bool {
+			members := n.Status().Members
+			return len(members) == 3 && members[0].Folder != 0 && members[1].Folder != 0 && members[2].Folder != 0
+		})
+	}
+	n := g.nodes[g.leader()]
+	barrier(t, n)
+	before, rounds := n.Status().Applied, uint64(300)
+	for round := uint64(0); round < rounds; round++ {
 		g.refused(removing(9), "there is no member 9")
+	}
+	barrier(t, n)
+	if made := n.Status().Applied - before; made > rounds+3 {
+		t.Errorf("%d changes are %d entries", rounds, made)
 	}
 }
 

@@ -162,7 +162,7 @@ func (n *Node) takeLog() (it identity, err error) {
 		return it, err
 	}
 	if it, err = readIdentity(n.cfg.Dir); err != nil {
-		return it, fmt.Errorf("the file %s of the folder can't be read: %w", identityName, err)
+		return it, fmt.Errorf("the file %s of the folder can't be read: %w. A start of the member writes it anew", identityName, err)
 	}
 	n.cfg.Self.ID, n.identity = it.Member, it
 	if err := n.openMark(); err != nil {
@@ -231,6 +231,7 @@ func (n *Node) beginAgain(begins beginning, beside string) error {
 		return err
 	}
 	if err := n.build(built, begins); err != nil {
+		os.RemoveAll(built) // (the folder is as it was)
 		return err
 	}
 	if err := os.Rename(built, whole); err != nil {

@@ -236,6 +236,9 @@ func TestAMemberGoesOnAloneAfterItsMajorityIsLost(t *testing.T) {
 	ctx, cancel := context.WithTimeout(context.Background(), 100*time.Millisecond)
 	defer cancel()
 	g.nodes[left].Propose(ctx, []byte("perhaps told")) // (nobody else has it)
+	if status := g.nodes[left].Status(); status.Last != status.Commit+1 || status.LastTerm == 0 {
+		t.Errorf("%+v", status)
+	}
 	cfg := g.configs[left]
 	if _, err := Recover(recovering(cfg), &list{}); err == nil || !strings.Contains(err.Error(), "another process has the folder") {
 		t.Error(err)
@@ -283,6 +286,49 @@ func TestAMemberGoesOnAloneAfterItsMajorityIsLost(t *testing.T) {
 	expect(t, machine, append(all, "alone"))
 }
 
+// One that only learned has all that it learned, and votes alone.
+func TestALearnerIsRecovered(t *testing.T) {
+	t.Parallel()
+	g := groupOf(t, 1)
+	proposeAll(t, g.nodes[1], texts(1, 3))
+	member := learner(memberAt(t, 2))
+	g.must(adding(member))
+	g.join(member)
+	g.alike(texts(1, 3))
+	g.nodes[1].Close()
+	g.nodes[2].Close()
+	made, err := Recover(recovering(g.configs[2]), &list{})
+	if err != nil || made.Self.Learner || made.Self.ID != 2 {
+		t.Fatalf("%+v, %v", made, err)
+	}
+	g.start(2)
+	propose(t, g.nodes[2], "entry 4")
+	expect(t, g.machines[2], texts(1, 4))
+	if members := g.nodes[2].Status().Members; len(members) != 1 || members[0].Learner || members[0].Folder == g.configs[2].Self.Folder {
+		t.Errorf("%+v", members)
+	}
+}
+
+// A member that was removed is none of the group: what it has is old.
+func TestAMemberThatWasRemovedIsNotRecovered(t *testing.T) {
+	t.Parallel()
+	g := groupOf(t, 3)
+	propose(t, g.nodes[1], "entry 1")
+	gone := g.removeLeader()
+	if _, err := Recover(recovering(g.configs[gone]), &list{}); err == nil || !strings.Contains(err.Error(), "is none of its group") {
+		t.Error(err)
+	}
+}
+
+func glob(t *testing.T, folder, pattern string) []string {
+	t.Helper()
+	found, err := filepath.Glob(filepath.Join(folder, pattern))
+	if err != nil {
+		t.Fatal(err)
+	}
+	return found
+}
+
 // recovering is what a recovery is told of the folder of a member.
 func recovering(cfg Config) Config { return Config{Dir: cfg.Dir, Log: cfg.Log} }
 
@@ -316,8 +362,14 @@ func TestARecoveryThatIsCutOffGoesOn(t *testing.T) {
 		if _, err := Recover(cut, &list{}); err == nil {
 			break // (it is over before)
 		}
-		if left, _ := filepath.Glob(filepath.Join(cfg.Dir, "*finished*")); len(left) == 0 {
+		isBuilt := len(glob(t, cfg.Dir, finished+"*")) > 0
+		if !isBuilt && len(glob(t, cfg.Dir, "wal"+before+"*")) > 0 {
 			break // (all is in place)
+		}
+		if !isBuilt { // as if the process had ended then
+			if err := os.Mkdir(filepath.Join(cfg.Dir, unfinished), 0o700); err != nil {
+				t.Fatal(err)
+			}
 		}
 		if _, err := Start(cfg, &list{}); err == nil || !strings.Contains(err.Error(), "was cut off in the folder") {
 			t.Fatalf("after %d: %v", syncs, err)
