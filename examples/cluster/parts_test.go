@@ -28,28 +28,7 @@ type fakeBook struct {
 func (f *fakeBook) ServeHTTP(w http.ResponseWriter, r *http.Request) {
 	switch path := r.URL.Path; {
 	case strings.HasSuffix(path, "/call"):
-		var body struct {
-			Command, Worker, Key string
-			Since                uint64
-		}
-		if json.NewDecoder(r.Body).Decode(&body) != nil {
-			w.WriteHeader(http.StatusBadRequest)
-		}
-		f.keys = append(f.keys, fmt.Sprint(body.Key, " ", body.Since))
-		if len(f.faults) > 0 {
-			status, code := 0, ""
-			fmt.Sscan(f.faults[0], &status, &code)
-			f.faults = f.faults[1:]
-			w.WriteHeader(status)
-			fmt.Fprintf(w, `{"status":%d,"error":"words","code":"%s"}`, status, code)
-			return
-		}
-		f.asked = append(f.asked, body.Command)
-		replies := f.replies[strings.Fields(body.Command)[0]]
-		if len(replies) > 1 {
-			f.replies[strings.Fields(body.Command)[0]] = replies[1:]
-		}
-		fmt.Fprint(w, replies[0])
+		f.call(w, r)
 	case strings.HasSuffix(path, "/recipe"):
 		missing := strings.Join(r.URL.Query()["missing"], " ")
 		f.asked = append(f.asked, "recipe "+missing)
@@ -68,6 +47,31 @@ func (f *fakeBook) ServeHTTP(w http.ResponseWriter, r *http.Request) {
 	default:
 		fmt.Fprint(w, `{"rows":[{"stripe":1,"code":"wide","home_0":"7:0","home_1":"7:1","home_2":"7:2","home_3":"7:3"}]}`)
 	}
+}
+
+func (f *fakeBook) call(w http.ResponseWriter, r *http.Request) {
+	var body struct {
+		Command, Worker, Key string
+		Since                uint64
+	}
+	if json.NewDecoder(r.Body).Decode(&body) != nil {
+		w.WriteHeader(http.StatusBadRequest)
+	}
+	f.keys = append(f.keys, fmt.Sprint(body.Key, " ", body.Since))
+	if len(f.faults) > 0 {
+		status, code := 0, ""
+		fmt.Sscan(f.faults[0], &status, &code)
+		f.faults = f.faults[1:]
+		w.WriteHeader(status)
+		fmt.Fprintf(w, `{"status":%d,"error":"words","code":"%s"}`, status, code)
+		return
+	}
+	f.asked = append(f.asked, body.Command)
+	replies := f.replies[strings.Fields(body.Command)[0]]
+	if len(replies) > 1 {
+		f.replies[strings.Fields(body.Command)[0]] = replies[1:]
+	}
+	fmt.Fprint(w, replies[0])
 }
 
 const (

@@ -15,13 +15,11 @@
 // first try. Both are the same in each try, so that it is made once however often it is sent. These errors say more than that it
 // failed:
 //
-//   - An OutcomeUnknown: it was sent, and nobody has told what came of it. It may have been made, or still be made. Ask again with
-//     its key and since, by WithKey, now or in another process: then it is made once all the same.
+//   - An OutcomeUnknown: it was sent, and nobody has told what came of it. It may have been made, or still be made. Ask again
+//     with its key and since, by WithKey, now or in another process: then it is made once all the same.
 //   - A KeyForgotten: it may have been made, and the group has forgotten its key since. Nobody will know by this key: look at the
 //     book.
 //
-// Any other error of such a request says that nothing was made. An *Error is the answer of a member, with its status and its code.
-// A refusal by the rules is no error: it is a reply of the kind Refused, and an entry of the book.
-//
-// Make a new Client where a group was restored from a backup: its indexes are other ones.
+// Any other error of such a request says that nothing was made. An *Error is the answer of a member, with its status and its
+// code. A refusal by the rules is no error: it is a reply of the kind Refused, and an entry of the book.
 package client

@@ -108,6 +108,27 @@ type member struct {
 	end    chan struct{}
 }
 
+// plan has the member do these with the calls to come, beside so many calls of others.
+func (m *member) plan(others int, faults ...fault) {
+	m.g.mu.Lock()
+	defer m.g.mu.Unlock()
+	m.faults, m.others = faults, others
+}
+
+// times tells how often a key was made, and how many keys were.
+func (g *group) times(key string) (ofKey, keys int) {
+	g.mu.Lock()
+	defer g.mu.Unlock()
+	return g.made[key], len(g.made)
+}
+
+// tries are the calls that came.
+func (g *group) tries() []call {
+	g.mu.Lock()
+	defer g.mu.Unlock()
+	return append([]call(nil), g.calls...)
+}
+
 func (m *member) next() fault {
 	if len(m.faults) == 0 {
 		return none

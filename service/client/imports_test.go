@@ -18,7 +18,8 @@ func TestTheStandardLibraryIsEnough(t *testing.T) {
 	}
 	for name, file := range packages["client"].Files {
 		for _, it := range file.Imports {
-			if first, _, _ := strings.Cut(strings.Trim(it.Path.Value, `"`), "/"); first == "C" || first == "lrcman" || strings.Contains(first, ".") {
+			first, _, _ := strings.Cut(strings.Trim(it.Path.Value, `"`), "/")
+			if first == "C" || first == "lrcman" || strings.Contains(first, ".") {
 				t.Errorf("%s imports %s", name, it.Path.Value)
 			}
 		}

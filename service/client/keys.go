@@ -11,8 +11,8 @@ import (
 	"time"
 )
 
-// freshTime is how long an index that was heard serves as the since of new requests. An older one is right too, but a busy book may
-// have forgotten keys behind it by now.
+// freshTime is how long an index that was heard serves as the since of new requests. An older one is right too, but a busy book
+// may have forgotten keys behind it by now.
 const freshTime = 2 * time.Second
 
 // keyed is the key of a request and its since: what makes it once, however often it is sent.
@@ -48,8 +48,8 @@ func (c *Client) key(ctx context.Context, o *options, inBody bool) (*keyed, erro
 	return k, err
 }
 
-// Index is an index of the log that the group has reached: the since of a request that is made from now on. It is the highest that
-// was heard lately, or what a member tells.
+// Index is an index of the log that the group has reached: the since of a request that is made from now on. It is the highest
+// that was heard lately, or what a member tells.
 func (c *Client) Index(ctx context.Context) (uint64, error) {
 	c.mu.Lock()
 	heard, at := c.heard, c.heardAt

@@ -23,7 +23,7 @@ func TestEachCallIsMadeAtMostOnceAndToldRightly(t *testing.T) {
 		g := newGroup(8)
 		members, c := serve(t, g, 1+dice.Intn(3), Config{Timeout: 250 * time.Millisecond, Attempt: 30 * time.Millisecond})
 		for _, m := range members {
-			m.faults, m.others = someFaults(dice, dice.Intn(4)), dice.Intn(8)
+			m.plan(dice.Intn(8), someFaults(dice, dice.Intn(4))...)
 		}
 		for i := 0; i < 2; i++ {
 			told[checkOne(t, g, c, members)]++
@@ -40,18 +40,18 @@ func TestEachCallIsMadeAtMostOnceAndToldRightly(t *testing.T) {
 // checkOne makes one call and returns what came of it.
 func checkOne(t *testing.T, g *group, c *Client, members []*member) string {
 	t.Helper()
-	before := len(g.calls)
+	before := len(g.tries())
 	reply, err := c.Call(background, "p0", Tick())
 	g.mu.Lock()
 	g.makeLate()
-	tries := append([]call(nil), g.calls[before:]...)
+	tries, ahead := append([]call(nil), g.calls[before:]...), append([]call(nil), g.ahead...)
 	made := map[string]int{}
 	for _, it := range tries {
 		made[it.Key] = g.made[it.Key]
 	}
 	g.mu.Unlock()
-	if len(made) > 1 || len(g.ahead) > 0 {
-		t.Errorf("a call has %d keys, and these are ahead: %+v", len(made), g.ahead)
+	if len(made) > 1 || len(ahead) > 0 {
+		t.Errorf("a call has %d keys, and these are ahead: %+v", len(made), ahead)
 	}
 	count, key := 0, ""
 	for key, count = range made {
@@ -90,29 +90,42 @@ func TestEachFaultIsToldAsWhatItIs(t *testing.T) {
 		{"cut within the answer", cutWithin, true}, {"a member that hangs", hang, true}, {"502 of another", strange, true},
 		{"503 of another", strange503, true}, {"500", broken, true},
 	} {
+		attempt := 2 * time.Second
+		if it.fault == hang {
+			attempt = 50 * time.Millisecond
+		}
 		g := newGroup(100)
-		members, c := serve(t, g, 2, Config{Attempt: 50 * time.Millisecond})
-		members[0].faults = []fault{it.fault}
-		if reply, err := c.Call(background, "p0", Tick()); err != nil || len(g.made) != 1 || reply.Clock != 1 {
-			t.Errorf("%s, and then another member: %+v %v, made %v", it.name, reply, err, g.made)
+		members, c := serve(t, g, 2, Config{Attempt: attempt})
+		members[0].plan(0, it.fault)
+		reply, err := c.Call(background, "p0", Tick())
+		if _, keys := g.times(""); err != nil || keys != 1 || reply.Clock != 1 {
+			t.Errorf("%s, and then another member: %+v %v, %d keys", it.name, reply, err, keys)
 		}
-		g = newGroup(100)
-		members, c = serve(t, g, 1, Config{Timeout: 80 * time.Millisecond, Attempt: 20 * time.Millisecond})
-		members[0].faults = repeat(it.fault, 1000)
-		_, err := c.Call(background, "p0", Tick())
-		var unknown *OutcomeUnknown
-		if err == nil || errors.As(err, &unknown) != it.maybe {
-			t.Errorf("%s alone: %v", it.name, err)
-			continue
-		}
-		if !it.maybe {
-			continue
-		}
-		members[0].faults = nil
-		again, err := c.Call(background, "p0", Tick(), WithKey(unknown.Key, unknown.Since))
-		if err != nil || g.made[unknown.Key] != 1 || again.N != 1 || len(g.made) != 1 {
-			t.Errorf("%s, and later again: %+v %v, made %v", it.name, again, err, g.made)
-		}
+		checkAlone(t, it.name, it.fault, it.maybe, attempt)
+	}
+}
+
+// checkAlone has a fault always, and then none.
+func checkAlone(t *testing.T, name string, fault fault, maybe bool, attempt time.Duration) {
+	t.Helper()
+	g := newGroup(100)
+	members, c := serve(t, g, 1, Config{Timeout: 80 * time.Millisecond, Attempt: attempt})
+	c.hearIndex(8)
+	members[0].plan(0, repeat(fault, 1000)...)
+	_, err := c.Call(background, "p0", Tick())
+	var unknown *OutcomeUnknown
+	if err == nil || errors.As(err, &unknown) != maybe {
+		t.Errorf("%s alone: %v", name, err)
+		return
+	}
+	if !maybe {
+		return
+	}
+	members[0].plan(0)
+	c.cfg.Timeout, c.cfg.Attempt = 10*time.Second, 10*time.Second
+	again, err := c.Call(background, "p0", Tick(), WithKey(unknown.Key, unknown.Since))
+	if made, keys := g.times(unknown.Key); err != nil || made != 1 || again.N != 1 || keys != 1 {
+		t.Errorf("%s, and later again: %+v %v, made %d times", name, again, err, made)
 	}
 }
 
@@ -126,21 +139,23 @@ func repeat(it fault, count int) (found []fault) {
 func TestAllTriesHaveOneKeyAndTheSinceFromBeforeTheFirst(t *testing.T) {
 	g := newGroup(100)
 	members, c := serve(t, g, 1, Config{})
-	members[0].faults, members[0].others = []fault{never, busy, cutBefore, unknown}, 3
+	members[0].plan(3, never, busy, cutBefore, unknown)
 	if _, err := c.Call(background, "p0", Tick()); err != nil {
 		t.Fatal(err)
 	}
-	for _, it := range g.calls {
-		if it.Key != g.calls[0].Key || it.Since != 10 || len(it.Key) != 32 {
-			t.Errorf("tries %+v", g.calls)
+	tries := g.tries()
+	for _, it := range tries {
+		if it.Key != tries[0].Key || it.Since != 10 || len(it.Key) != 32 {
+			t.Errorf("tries %+v", tries)
 		}
 	}
-	if len(g.calls) != 5 {
-		t.Errorf("%d tries", len(g.calls))
+	if len(tries) != 5 {
+		t.Errorf("%d tries", len(tries))
 	}
 	heard := g.index
-	if _, err := c.Call(background, "p0", Tick()); err != nil || g.calls[5].Since != heard || g.calls[5].Key == g.calls[0].Key {
-		t.Errorf("%v, the next call %+v, and index %d", err, g.calls[5], heard)
+	_, err := c.Call(background, "p0", Tick())
+	if last := g.tries()[5]; err != nil || last.Since != heard || last.Key == tries[0].Key {
+		t.Errorf("%v, the next call %+v, and index %d", err, last, heard)
 	}
 }
 
@@ -164,16 +179,15 @@ func TestAKeyThatMayBeForgotten(t *testing.T) {
 		if _, err := c.Index(background); err != nil {
 			t.Fatal(err)
 		}
-		members[0].faults = it.faults
+		members[0].plan(0, it.faults...)
 		g.others(20)
 		reply, err := c.Call(background, "p0", Tick(), it.options...)
 		var forgotten *KeyForgotten
-		first := g.calls[0]
-		switch {
-		case it.isTold && (err != nil || g.made[first.Key] != 1 || reply.Again):
-			t.Errorf("%s: %+v %v", it.name, reply, err)
-		case !it.isTold && (!errors.As(err, &forgotten) || forgotten.Key != first.Key || forgotten.Since != first.Since || g.made[first.Key] != 0):
-			t.Errorf("%s: %v, made %v", it.name, err, g.made[first.Key])
+		first := g.tries()[0]
+		made, _ := g.times(first.Key)
+		isForgotten := errors.As(err, &forgotten) && forgotten.Key == first.Key && forgotten.Since == first.Since
+		if it.isTold && (err != nil || made != 1 || reply.Again) || !it.isTold && (!isForgotten || made != 0) {
+			t.Errorf("%s: %+v %v, made %d times", it.name, reply, err, made)
 		}
 	}
 }
@@ -197,8 +211,8 @@ func TestARefusalAfterATryThatNobodyToldOf(t *testing.T) {
 		code   string
 		maybe  bool
 	}{
-		{404, CodeNoBook, true}, {409, CodeBookExists, true}, {403, "forbidden", true}, {409, CodeMoved, false}, {400, "bad_request", false},
-		{422, CodeBadText, false},
+		{404, CodeNoBook, true}, {409, CodeBookExists, true}, {403, "forbidden", true}, {409, CodeMoved, false},
+		{400, "bad_request", false}, {422, CodeBadText, false},
 	} {
 		for _, isFirst := range []bool{true, false} {
 			turn := 0
@@ -230,7 +244,7 @@ func TestARefusalAfterATryThatNobodyToldOf(t *testing.T) {
 func TestAContextEndsACall(t *testing.T) {
 	g := newGroup(100)
 	members, c := serve(t, g, 1, Config{})
-	members[0].faults = []fault{hang}
+	members[0].plan(0, hang)
 	if _, err := c.Index(background); err != nil {
 		t.Fatal(err)
 	}
@@ -250,18 +264,22 @@ func TestAContextEndsACall(t *testing.T) {
 func TestAMemberIsLeftAloneAsLongAsItWants(t *testing.T) {
 	g := newGroup(100)
 	members, c := serve(t, g, 1, Config{})
-	members[0].faults, members[0].rest = []fault{tooMany}, "1"
+	members[0].rest = "1"
+	members[0].plan(0, tooMany)
 	begun := time.Now()
 	if _, err := c.Call(background, "p0", Tick()); err != nil || time.Since(begun) < time.Second {
 		t.Errorf("after %v: %v", time.Since(begun), err)
 	}
 	members, c = serve(t, g, 2, Config{})
-	members[0].faults, members[0].rest = []fault{busy}, "5"
+	members[0].rest = "5"
+	members[0].plan(0, busy)
 	begun = time.Now()
 	if _, err := c.Call(background, "p0", Tick()); err != nil || time.Since(begun) > 4*time.Second {
 		t.Errorf("another member is asked after %v: %v", time.Since(begun), err)
 	}
-	members[0].faults, members[1].faults, members[1].rest = []fault{busy}, []fault{busy}, "5"
+	members[1].rest = "5"
+	members[0].plan(0, busy)
+	members[1].plan(0, busy)
 	c.cfg.Timeout = 300 * time.Millisecond
 	begun = time.Now()
 	if _, err := c.Call(background, "p0", Tick()); err == nil || time.Since(begun) > 3*time.Second {
@@ -288,4 +306,50 @@ func TestNobodyWhoListensHasMadeNothing(t *testing.T) {
 	if err == nil || errors.As(err, &unknown) || !strings.Contains(err.Error(), "does not answer") {
 		t.Error(err)
 	}
+}
+
+func TestManyCallersShareAClient(t *testing.T) {
+	g := newGroup(1000)
+	members, c := serve(t, g, 3, Config{})
+	dice := rand.New(rand.NewSource(7))
+	for _, m := range members {
+		m.plan(0, someFaults(dice, 40)...)
+		m.faults = without(m.faults, hang)
+	}
+	const callers, each = 16, 20
+	failed := make(chan error)
+	for i := 0; i < callers; i++ {
+		go func() {
+			var err error
+			for turn := 0; turn < each && err == nil; turn++ {
+				_, err = c.Call(background, "p0", Tick())
+			}
+			failed <- err
+		}()
+	}
+	for i := 0; i < callers; i++ {
+		if err := <-failed; err != nil {
+			t.Error(err)
+		}
+	}
+	g.mu.Lock()
+	defer g.mu.Unlock()
+	g.makeLate()
+	for key, count := range g.made {
+		if count != 1 {
+			t.Errorf("%s was made %d times", key, count)
+		}
+	}
+	if len(g.made) != callers*each || g.entries != callers*each {
+		t.Errorf("%d calls and %d entries", len(g.made), g.entries)
+	}
+}
+
+func without(list []fault, one fault) (rest []fault) {
+	for _, it := range list {
+		if it != one {
+			rest = append(rest, it)
+		}
+	}
+	return rest
 }

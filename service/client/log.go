@@ -13,10 +13,10 @@ import (
 	"time"
 )
 
-// Follow gives each entry of a book behind number from to a function, in order and once each, and goes on with those to come. Where
-// a member breaks off, it goes on at another one. It returns the error of the function, that of the context when it is over, a
-// Forgotten if no member has those entries any more, an Error if the book is gone, or what went wrong once no member has answered
-// for Config.Timeout.
+// Follow gives each entry of a book behind number from to a function, in order and once each, and goes on with those to come.
+// Where a member breaks off, it goes on at another one. It returns the error of the function, that of the context when it is over,
+// a Forgotten if no member has those entries any more, an Error if the book is gone, or what went wrong once no member has
+// answered for Config.Timeout.
 func (c *Client) Follow(ctx context.Context, book string, from uint64, give func(Entry) error) error {
 	return c.read(ctx, book, from, url.Values{"follow": {"1"}}, give)
 }

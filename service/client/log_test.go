@@ -14,11 +14,12 @@ import (
 )
 
 func entryLine(n int) string {
-	return fmt.Sprintf(`{"n":%d,"session":2,"command":"tick","reply":"ticked %d 0","kind":"ticked","clock":%d,"ended":0}`+"\n", n, n, n)
+	const form = `{"n":%d,"session":2,"command":"tick","reply":"ticked %d 0","kind":"ticked","clock":%d,"ended":0}` + "\n"
+	return fmt.Sprintf(form, n, n, n)
 }
 
-// A script is what the members of a test answer, request by request: what is written, and then the connection is cut if it ends with
-// an exclamation mark.
+// A script is what a member of a test answers, request by request. Where it ends with an exclamation mark, the connection is cut
+// then; with a tilde, nothing more comes.
 type script struct {
 	answers []string
 	asked   []string
@@ -132,15 +133,14 @@ func TestALogEnds(t *testing.T) {
 	if _, err := read(play(t, Config{}, &script{}), 3, 1); !errors.As(err, &told) || told.Status != 503 {
 		t.Errorf("nobody answers: %v", err)
 	}
-	if _, err := read(play(t, Config{}, &script{answers: []string{entryLine(5)}}), 3, 1); err == nil || !strings.Contains(err.Error(), "entry 5 of the log comes after entry 3") {
-		t.Errorf("a gap: %v", err)
-	}
-	if _, err := read(play(t, Config{}, &script{answers: []string{"x\n"}}), 3, 1); err == nil || !strings.Contains(err.Error(), "is not what lrcmand writes") {
-		t.Errorf("no entry: %v", err)
+	for text, words := range map[string]string{entryLine(5): "entry 5 of the log comes after entry 3", "x\n": "is not what lrcmand writes"} {
+		if _, err := read(play(t, Config{}, &script{answers: []string{text}}), 3, 1); err == nil || !strings.Contains(err.Error(), words) {
+			t.Errorf("%q: %v", text, err)
+		}
 	}
 	ctx, cancel := context.WithCancel(background)
-	err := play(t, Config{}, &script{answers: []string{entryLine(4) + "~"}}).Follow(ctx, "p0", 3, func(Entry) error { cancel(); return nil })
-	if err != context.Canceled {
+	c := play(t, Config{}, &script{answers: []string{entryLine(4) + "~"}})
+	if err := c.Follow(ctx, "p0", 3, func(Entry) error { cancel(); return nil }); err != context.Canceled {
 		t.Errorf("a context that is over: %v", err)
 	}
 }
@@ -148,7 +148,10 @@ func TestALogEnds(t *testing.T) {
 func TestALogIsReadToItsEnd(t *testing.T) {
 	one, two := &script{answers: []string{entryLine(1) + "!"}}, &script{answers: []string{entryLine(2) + entryLine(3)}}
 	var numbers []uint64
-	err := play(t, Config{}, one, two).Log(background, "p0", 0, func(entry Entry) error { numbers = append(numbers, entry.N); return nil })
+	err := play(t, Config{}, one, two).Log(background, "p0", 0, func(entry Entry) error {
+		numbers = append(numbers, entry.N)
+		return nil
+	})
 	if err != nil || !reflect.DeepEqual(numbers, []uint64{1, 2, 3}) || two.asked[0] != "from=1" {
 		t.Errorf("%v %v, asked %v", numbers, err, two.asked)
 	}

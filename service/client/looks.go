@@ -207,11 +207,12 @@ func (c *Client) ShowStripes(ctx context.Context, book string, given ...Option) 
 }
 
 // ShowStripe is one stripe of a book.
-func (c *Client) ShowStripe(ctx context.Context, book string, stripe uint16, given ...Option) (found Stripe, look Look, err error) {
+func (c *Client) ShowStripe(ctx context.Context, book string, stripe uint16, given ...Option) (Stripe, Look, error) {
 	var told struct {
 		Rows []Stripe `json:"rows"`
 	}
-	look, err = c.look(ctx, bookPath(book, fmt.Sprintf("/stripes/%d", stripe)), nil, given, &told)
+	found := Stripe{}
+	look, err := c.look(ctx, bookPath(book, fmt.Sprintf("/stripes/%d", stripe)), nil, given, &told)
 	if err == nil && len(told.Rows) != 1 {
 		err = fmt.Errorf("the answer of a stripe has %d rows", len(told.Rows))
 	} else if err == nil {

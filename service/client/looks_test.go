@@ -96,37 +96,37 @@ func TestEachLookIsReadIntoTypes(t *testing.T) {
 	theStripe := Stripe{5, "narrow", "risk", pointer(2), []uint8{1}, []uint8{1}, seats}
 	for _, it := range []struct {
 		asked string
-		look  func() (interface{}, Look, error)
+		look  func() (any, Look, error)
 		want  interface{}
 	}{
-		{"GET /books", func() (interface{}, Look, error) { return three(c.Books(background)) }, []Book{{"p0", 17, 3072}}},
-		{"GET /books/p0/nodes?now=1", func() (interface{}, Look, error) { return three(c.Nodes(background, "p0", WithNow())) }, "[[node]]\n"},
-		{"GET /books/p0/image", func() (interface{}, Look, error) { return three(c.Image(background, "p0")) }, "image 1\n"},
-		{"GET /books/p0/show/status?now=1", func() (interface{}, Look, error) { return three(c.ShowStatus(background, "p0", WithNow())) },
+		{"GET /books", func() (any, Look, error) { return three(c.Books(background)) }, []Book{{"p0", 17, 3072}}},
+		{"GET /books/p0/nodes?now=1", func() (any, Look, error) { return three(c.Nodes(background, "p0", WithNow())) }, "[[node]]\n"},
+		{"GET /books/p0/image", func() (any, Look, error) { return three(c.Image(background, "p0")) }, "image 1\n"},
+		{"GET /books/p0/show/status?now=1", func() (any, Look, error) { return three(c.ShowStatus(background, "p0", WithNow())) },
 			Summary{Stripes: 60, AtRiskMargin2: 1, Entries: 17}},
-		{"GET /books/p0/show/stripes", func() (interface{}, Look, error) { return three(c.ShowStripes(background, "p0")) }, []Stripe{theStripe}},
-		{"GET /books/p0/stripes/5", func() (interface{}, Look, error) { return three(c.ShowStripe(background, "p0", 5)) }, theStripe},
-		{"GET /books/p0/show/nodes", func() (interface{}, Look, error) { return three(c.ShowNodes(background, "p0")) },
+		{"GET /books/p0/show/stripes", func() (any, Look, error) { return three(c.ShowStripes(background, "p0")) }, []Stripe{theStripe}},
+		{"GET /books/p0/stripes/5", func() (any, Look, error) { return three(c.ShowStripe(background, "p0", 5)) }, theStripe},
+		{"GET /books/p0/show/nodes", func() (any, Look, error) { return three(c.ShowNodes(background, "p0")) },
 			[]Node{{300, 1, 2, "draining", true, false, false, 3, 1, 4, 64}}},
-		{"GET /books/p0/show/leases", func() (interface{}, Look, error) { return three(c.ShowLeases(background, "p0")) },
+		{"GET /books/p0/show/leases", func() (any, Look, error) { return three(c.ShowLeases(background, "p0")) },
 			[]LeaseRow{{1, 3, 2, Seat{17, 0}, 1, 3}}},
-		{"GET /books/p0/show/work", func() (interface{}, Look, error) { return three(c.ShowWork(background, "p0")) },
+		{"GET /books/p0/show/work", func() (any, Look, error) { return three(c.ShowWork(background, "p0")) },
 			[]Job{{1, 3, "local", []uint8{0, 1, 2}, pointer(6), "leased", pointer(2), &epochOne}, {2, 0, "global", []uint8{}, nil, "open", nil, nil}}},
-		{"GET /books/p0/workers", func() (interface{}, Look, error) { return three(c.Workers(background, "p0")) }, []Worker{{1, 3, 2, "w7"}}},
-		{"GET /books/p0/recipe?fragment=3&missing=3&missing=4&now=1&stripe=1", func() (interface{}, Look, error) {
+		{"GET /books/p0/workers", func() (any, Look, error) { return three(c.Workers(background, "p0")) }, []Worker{{1, 3, 2, "w7"}}},
+		{"GET /books/p0/recipe?fragment=3&missing=3&missing=4&now=1&stripe=1", func() (any, Look, error) {
 			return three(c.Recipe(background, "p0", 1, 3, []uint8{3, 4}, WithNow()))
 		}, Recipe{"wide", []uint8{3}, []Source{{0, 200, Seat{7, 1}}}}},
-		{"GET /books/p0/may-stop?fault=5&node=3&node=7&upgrade=0", func() (interface{}, Look, error) {
+		{"GET /books/p0/may-stop?fault=5&node=3&node=7&upgrade=0", func() (any, Look, error) {
 			return three(c.MayStop(background, "p0", Outage{[]uint16{3, 7}, []uint8{5}, []uint8{0}}))
 		}, Forecast{false, []Outlook{{1, "wide", "risk", pointer(2), "lost", nil, []uint8{0, 1}, 1, true}}}},
-		{"GET /books/p0/may-lose?node=3", func() (interface{}, Look, error) {
+		{"GET /books/p0/may-lose?node=3", func() (any, Look, error) {
 			return three(c.MayLose(background, "p0", Outage{Nodes: []uint16{3}}))
 		}, Forecast{true, []Outlook{}}},
-		{"GET /books/p0/show/work", func() (interface{}, Look, error) {
+		{"GET /books/p0/show/work", func() (any, Look, error) {
 			rows, look, err := c.Table(background, "p0", "work")
 			return rows[0]["kind"], look, err
 		}, "local"},
-		{"GET /books/p0/peek?command=next&session=3", func() (interface{}, Look, error) {
+		{"GET /books/p0/peek?command=next&session=3", func() (any, Look, error) {
 			reply, look, err := c.Peek(background, "p0", Next(), WithSession(3))
 			return reply.Kind, look, err
 		}, Idle},
@@ -144,7 +144,7 @@ func TestEachLookIsReadIntoTypes(t *testing.T) {
 	}
 }
 
-func three[T any](value T, look Look, err error) (interface{}, Look, error) { return value, look, err }
+func three[T any](value T, look Look, err error) (any, Look, error) { return value, look, err }
 
 // Each request that changes something has its method, its parameters and its body; those that could be made twice have a key.
 func TestEachChangeIsAskedFor(t *testing.T) {
@@ -361,7 +361,7 @@ func TestALookGoesOnWhereAMemberBreaksOffOrHangs(t *testing.T) {
 		func(w http.ResponseWriter, r *http.Request) { w.WriteHeader(500) },
 	} {
 		bad := httptest.NewServer(handler)
-		c := newClient(t, Config{Servers: []string{bad.URL, good.URL}, Attempt: 50 * time.Millisecond})
+		c := newClient(t, Config{Servers: []string{bad.URL, good.URL}, Attempt: 500 * time.Millisecond})
 		if books, _, err := c.Books(background); err != nil || len(books) != 1 {
 			t.Errorf("%v %v", books, err)
 		}

@@ -19,9 +19,7 @@ that was heard before its first try. Both are the same in each try. These errors
 - KeyForgotten: it may have been made, and the group has forgotten its key since. To ask again does not help: look at the book.
 
 Any other error of such a request says that nothing was made. A StatusError is the answer of a member, with its status and its
-code. A refusal by the rules is no error: it is a reply of the kind "refused", and an entry of the book.
-
-Make a new client where a group was restored from a backup: its indexes are other ones."""
+code. A refusal by the rules is no error: it is a reply of the kind "refused", and an entry of the book."""
 from __future__ import annotations
 
 import http.client
@@ -33,7 +31,7 @@ import threading
 import time
 from collections.abc import Callable, Iterator, Sequence
 from dataclasses import dataclass
-from typing import Any
+from typing import Any, BinaryIO
 from urllib.parse import quote, urlencode, urlsplit
 
 __all__ = ["Answer", "Client", "Forgotten", "KeyForgotten", "LrcmandError", "NoAnswer", "OutcomeUnknown", "StatusError"]
@@ -286,6 +284,10 @@ class Client:
         """Makes a member the leader, and returns once it leads."""
         return self._change_members("POST", f"/leader/{number}")
 
+    def snapshot(self) -> None:
+        """Has the member that answers write a snapshot."""
+        self._changed(_Query("POST", "/snapshot", kind=JSON, is_change=True))
+
     # Looks.
 
     def get(self, path: str, values: Sequence[tuple[str, object]] = (), now: bool = False) -> Answer:
@@ -383,6 +385,20 @@ class Client:
     def log(self, book: str, start: int = 0) -> Iterator[dict[str, Any]]:
         """The entries of a book behind number `start` that are there."""
         return self._read(book, start, [])
+
+    def backup(self, to: BinaryIO, now: bool = True) -> int:
+        """Writes all that the group has at one place of its log, for `lrcmand restore`, and returns that place. All that was told
+        before is in it; without `now` it is what the member that answers has. After an error it is not whole."""
+        connections, query = _Connections(self._tls), _Query("GET", "/backup", [] if now else [("now", 0)], is_stream=True)
+        try:
+            answer, server = self._send(query, connections, lambda answer, server: (answer, server))
+            while text := answer.read(1 << 16):
+                to.write(text)
+            return _number(answer, "Index") or 0
+        except (OSError, http.client.HTTPException) as why:
+            raise NoAnswer(f"the backup of {server} breaks off: {why or type(why).__name__}") from why
+        finally:
+            connections.close()
 
     # How it is done.
 

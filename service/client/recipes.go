@@ -20,8 +20,8 @@ type Recipe struct {
 	Sources []Source `json:"rows"`
 }
 
-// Recipe tells how a fragment with a live lease is rebuilt; or, with some that are missing too, how any is. Where what is left does
-// not determine it, the error is an Error with CodeUndetermined.
+// Recipe tells how a fragment with a live lease is rebuilt; or, with some that are missing too, how any is. Where what is left
+// does not determine it, the error is an Error with CodeUndetermined.
 func (c *Client) Recipe(ctx context.Context, book string, stripe uint16, fragment uint8, missing []uint8, given ...Option) (
 	found Recipe, look Look, err error) {
 	values := url.Values{"stripe": {fmt.Sprint(stripe)}, "fragment": {fmt.Sprint(fragment)}}

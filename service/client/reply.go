@@ -116,8 +116,8 @@ func (r *Reply) UnmarshalJSON(text []byte) error {
 	if said.Kind == "" {
 		return fmt.Errorf("it is no reply: %.80q", text)
 	}
-	*r = Reply{N: said.N, Opens: said.Opens, Line: said.Line, Kind: said.Kind, Seats: said.Seats, Clock: said.Clock, Ended: said.Ended,
-		Refusal: said.Refusal, Name: said.Name, Detail: said.Detail, Holder: said.Holder, Again: said.Again,
+	*r = Reply{N: said.N, Opens: said.Opens, Line: said.Line, Kind: said.Kind, Seats: said.Seats, Clock: said.Clock,
+		Ended: said.Ended, Refusal: said.Refusal, Name: said.Name, Detail: said.Detail, Holder: said.Holder, Again: said.Again,
 		Raw: append([]byte(nil), text...)}
 	if said.Kind == Granted {
 		r.Lease = &Grant{said.Stripe, said.Fragment, said.Target, said.Epoch, said.Repair, said.Sources}

@@ -9,17 +9,19 @@ import sys
 import threading
 import time
 from collections import Counter
+from concurrent.futures import ThreadPoolExecutor
 
 import rules
+from certificates import Authority, NoOpenssl
 from cluster import Asker, Group, Member
 from fake_group import FAULTS, NOTHING, FakeGroup
-from harness import topology_of
+from harness import example, parts_of, split, topology_of
 from network import Network, ways_between
 from one_member import wait_ready
 
 HERE = os.path.dirname(os.path.abspath(__file__))
 sys.path.append(os.path.join(os.path.dirname(HERE), "client"))
-from lrcmand_client import Client, KeyForgotten, LrcmandError, OutcomeUnknown  # noqa: E402
+from lrcmand_client import Client, KeyForgotten, LrcmandError, OutcomeUnknown, StatusError  # noqa: E402
 
 
 def outcome_of(client, command="tick", **how):
@@ -70,16 +72,18 @@ def test_each_fault(count):
     for fault in FAULTS:
         with FakeGroup(2, 100) as group:
             group.members[0].faults = [fault]
-            word, told = outcome_of(Client(group.servers(), timeout=10, attempt=0.1, pause=0.001))
+            attempt = 0.1 if fault == "hang" else 5
+            word, told = outcome_of(Client(group.servers(), timeout=10, attempt=attempt, pause=0.001))
             count.check(f"{fault}: {word} {told}", word == "told" and set(group.book.made.values()) == {1})
         with FakeGroup(1, 100) as group:
-            member, client = group.members[0], Client(group.servers(), timeout=0.1, attempt=0.05, pause=0.001)
-            member.faults = [fault] * 1000
+            member, client = group.members[0], Client(group.servers(), timeout=10, attempt=attempt, pause=0.001)
+            client.index()
+            member.faults, client.timeout = [fault] * 1000, 0.1
             word, why = outcome_of(client)
             count.check(f"{fault} alone: {word} {why}", word == ("nothing made" if fault in NOTHING else "unknown"))
             if word == "unknown":
                 member.faults = []
-                client.timeout = 10
+                client.timeout = client.attempt = 10
                 word, told = outcome_of(client, key=why.key, since=why.since)
                 made = group.book.made
                 count.check(f"{fault}, later again: {word} {told}", (word, made, told["n"]) == ("told", {why.key: 1}, 1))
@@ -122,10 +126,24 @@ def test_rests(count):
         count.check(f"{text!r} is taken for a server", False)
 
 
+def test_threads(count, threads=8, each=10):
+    """Threads share a client: each of their calls is made once."""
+    with FakeGroup(3, 1000) as group:
+        dice = random.Random(7)
+        for member in group.members:
+            member.faults = [it for it in dice.choices(FAULTS, k=20) if it != "hang"]
+        client = Client(group.servers(), timeout=20, pause=0.001)
+        with ThreadPoolExecutor(threads) as pool:
+            words = Counter(word for word, _ in pool.map(lambda _: outcome_of(client), range(threads * each)))
+        made = Counter(group.book.made.values())
+        count.check(f"threads share a client: {words}, made {made}", words == {"told": threads * each} == {"told": made[1]})
+
+
 def test_python_client(count):
     test_each_fault(count)
     test_forgotten_keys(count)
     test_rests(count)
+    test_threads(count)
     test_chances(count)
 
 
@@ -134,6 +152,8 @@ def test_python_client(count):
 WORDS = ["--election", "500ms", "--snapshot-every", "3000", "--trailing", "500", "--tick", "0", "--timeout", "2s"]
 KEYS = 4096  # that a book keeps
 BOOK = "p0"
+# A wide stripe finds its sixteen racks.
+ROOMY = {number: rules.Node(number % 18, number % 12, 6) for number in range(36)}
 
 
 class GoCaller:
@@ -301,6 +321,120 @@ def test_clients(count, program, caller, room, nodes):
         count.check(f"calls are told, some by a later try: {words}, {again}", words["told"] > 2 * KEYS and again > 0)
 
 
+# Over one member.
+
+
+def compare_example(count, client, name):
+    """The script of an example, and then each look: all as the model has it."""
+    topology, _ = split(example(name))
+    nodes, scripts = parts_of(example(name))
+    store, book, topology = rules.Store(nodes), name.replace("_", "-"), topology.decode()
+    told = client.create(book, topology)
+    is_new = told["n"] == 0 and not told.get("again")
+    count.check(f"{name}: it is made: {told}", is_new and client.create(book, topology)["again"])
+    for number, command in enumerate(scripts[0], 1):
+        peeked, told, right = client.peek(book, command), client.call(book, command, worker="w7"), store.call(1, command)
+        is_right = (told["n"], told["reply"], peeked["reply"]) == (number, right, right)
+        count.check(f"{name} {number}: {told}, and not {right}", is_right)
+    image, lines = client.image(book, now=True), [(it["n"], it["command"]) for it in client.log(book)]
+    count.check(f"{name}: image: {image}", (image.text.decode(), image.n) == (store.image(len(lines)), len(lines)))
+    count.check(f"{name}: log: {lines}", lines == list(enumerate(scripts[0], 1)))
+    for row in client.show(book, "stripes", now=True):
+        homes = [store.homes.get((row["stripe"], fragment)) for fragment in store.stripes[row["stripe"]].fragments]
+        is_right = row["homes"] == homes and client.stripe(book, row["stripe"])["homes"] == homes
+        count.check(f"{name}: homes of stripe {row['stripe']}: {row['homes']}, and not {homes}", is_right)
+    leases = {(it["stripe"], it["fragment"]) for it in client.show(book, "leases")}
+    workers = {(it["stripe"], it["fragment"]) for it in client.workers(book)}
+    count.check(f"{name}: leases {leases}, workers {workers}", leases == set(store.leases) == workers)
+    return book, topology, image
+
+
+def compare_changes(count, client, book, topology, image):
+    """Nodes, images and removals, each with its key once more."""
+    since = client.index()
+    for is_again in (False, True):
+        told = client.create("moved", topology, image.text.decode(), key="moved", since=since)
+        count.check(f"an image is taken once: {told}", told.get("again", False) == is_again and told["n"] == image.n)
+    at = client.nodes("moved", now=True)
+    told = client.reopen("moved", topology, at=at.n, opens=at.opens)
+    count.check(f"the same nodes are nothing new: {told}", told["again"] and told["n"] == at.n)
+    try:
+        client.remove("moved", at.n + 1, at.opens)
+        count.check("a book is removed that stands elsewhere", False)
+    except StatusError as why:
+        count.check(f"a book that stands elsewhere: {why}", (why.status, why.code) == (409, "moved"))
+    for _ in (False, True):
+        client.remove("moved", at.n, at.opens, key="removed", since=since)
+    count.check("a book is removed", "moved" not in [it["name"] for it in client.books(now=True)])
+    node = client.show(book, "nodes")[0]["node"]
+    outlooks = client.may_stop(book, nodes=[node]), client.may_lose(book, nodes=[node])
+    count.check(f"outlooks: {outlooks}", all(isinstance(it["safe"], bool) for it in outlooks))
+
+
+def compare_group(count, client, member):
+    client.snapshot()
+    client.sync()
+    status, rows, led = client.status(), client.members(), client.lead(1)
+    count.check(f"members: {status} {rows} {led}", status["leader"] == rows[0]["id"] == led[0]["id"] == 1 and rows[0]["leader"])
+    count.check(f"rules: {client.rules()}", client.rules()["group"] == client.rules()["program"])
+    matrix = client.matrix("narrow")
+    count.check(f"matrix: {matrix}", [len(row) for row in matrix] == [6] * 10)
+    with open(f"{member.folder}.backup", "wb") as file:
+        place = client.backup(file)
+    count.check(f"a backup of place {place}", place >= status["applied"] and os.path.getsize(file.name) > 1000)
+
+
+def test_looks(count, program, room):
+    member = Member(Group(program, f"{room}/looks", 0), 1, [])
+    try:
+        member.start()
+        wait_ready(Asker(5), member)
+        client = Client([f"127.0.0.1:{member.client}"])
+        for name in ("every_reply", "narrow_stripe_placed_anew", "lease_ends", "worker_dead"):
+            found = compare_example(count, client, name)
+        compare_changes(count, client, *found)
+        compare_group(count, client, member)
+    finally:
+        member.kill()
+
+
+TOKENS = {"look": "lookslookslookslooks", "operate": "operatesoperatesoperates"}
+
+
+def test_tls(count, program, room):
+    """A token is shown, over TLS, to a member whose certificate is signed by who is named."""
+    folder = f"{room}/tls"
+    try:
+        authority, other = Authority(f"{folder}/ca"), Authority(f"{folder}/other")
+    except NoOpenssl as why:
+        print(f"left out: TLS of the client of Python: {why}", flush=True)
+        return
+    certificate, key = authority.sign("member")
+    with open(os.open(f"{folder}/tokens", os.O_WRONLY | os.O_CREAT, 0o600), "w", encoding="utf-8") as file:
+        file.write("".join(f"{role} {token}\n" for role, token in TOKENS.items()))
+    words = ["--cert", certificate, "--key", key, "--token-file", f"{folder}/tokens"]
+    member = Member(Group(program, f"{folder}/group", 0), 1, words)
+    try:
+        member.start()
+        compare_rights(count, [f"https://127.0.0.1:{member.client}"], authority.ca, other.ca)
+    finally:
+        member.kill()
+
+
+def compare_rights(count, servers, ca, other_ca):
+    client = Client(servers, token=TOKENS["operate"], ca=ca)
+    client.create(BOOK, topology_of(ROOMY))
+    word, told = outcome_of(client)
+    count.check(f"over TLS: {word} {told}", word == "told" and told["n"] == 1)
+    first = next(iter(client.follow(BOOK)))
+    count.check(f"a log over TLS: {first}", first["n"] == 1)
+    for token, code in ((TOKENS["look"], "forbidden"), ("no such token at all", "unauthorized"), (None, "unauthorized")):
+        word, why = outcome_of(Client(servers, token=token, ca=ca))
+        count.check(f"token {token}: {word} {why}", word == "nothing made" and why.code == code)
+    word, why = outcome_of(Client(servers, token=TOKENS["operate"], ca=other_ca, timeout=0.5))
+    count.check(f"signed by another: {word} {why}", word == "nothing made" and "certificate" in str(why))
+
+
 # The examples of docs/SERVICE.md.
 
 
@@ -325,10 +459,6 @@ def run_example(count, library, room, language, text, env):
     words = [program] if language == "go" else [sys.executable, "main.py"]
     env = {**os.environ, **env, "PYTHONPATH": os.path.join(os.path.dirname(HERE), "client"), "PYTHONDONTWRITEBYTECODE": "1"}
     return (count.run(f"the example of {language}", *words, cwd=folder, env=env) or "").splitlines()
-
-
-# A wide stripe finds its sixteen racks.
-ROOMY = {number: rules.Node(number % 18, number % 12, 6) for number in range(36)}
 
 
 def test_examples(count, program, library, room):

@@ -92,6 +92,10 @@ type typedLook struct {
 }
 
 func looksOf(t *testing.T, c *lrcmand.Client) []typedLook {
+	return append(showsOf(c), forecastsOf(t, c)...)
+}
+
+func forecastsOf(t *testing.T, c *lrcmand.Client) []typedLook {
 	t.Helper()
 	nodes, _, err := c.ShowNodes(always, "p0")
 	if err != nil || len(nodes) < 4 {
@@ -101,6 +105,19 @@ func looksOf(t *testing.T, c *lrcmand.Client) []typedLook {
 		Upgrades: []uint8{nodes[3].Upgrade}}
 	values := url.Values{"node": {fmt.Sprint(outage.Nodes[0]), fmt.Sprint(outage.Nodes[1])}, "fault": {fmt.Sprint(outage.Faults[0])},
 		"upgrade": {fmt.Sprint(outage.Upgrades[0])}}
+	return []typedLook{
+		{"/may-stop", values, func() ([][]interface{}, error) {
+			found, _, err := c.MayStop(always, "p0", outage)
+			return outlooks(found), err
+		}},
+		{"/may-lose", values, func() ([][]interface{}, error) {
+			found, _, err := c.MayLose(always, "p0", outage)
+			return outlooks(found), err
+		}},
+	}
+}
+
+func showsOf(c *lrcmand.Client) []typedLook {
 	return []typedLook{
 		{"/show/stripes", nil, func() (rows [][]interface{}, err error) {
 			found, _, err := c.ShowStripes(always, "p0")
@@ -138,14 +155,6 @@ func looksOf(t *testing.T, c *lrcmand.Client) []typedLook {
 				rows = append(rows, []interface{}{it.Stripe, it.Fragment, it.Repair, it.Sources, it.Reads, it.Standing, it.Holder, it.Epoch})
 			}
 			return rows, err
-		}},
-		{"/may-stop", values, func() ([][]interface{}, error) {
-			found, _, err := c.MayStop(always, "p0", outage)
-			return outlooks(found), err
-		}},
-		{"/may-lose", values, func() ([][]interface{}, error) {
-			found, _, err := c.MayLose(always, "p0", outage)
-			return outlooks(found), err
 		}},
 	}
 }
@@ -231,7 +240,13 @@ func TestChangesOfTheClientAreMadeOnce(t *testing.T) {
 			t.Errorf("create in an image: %+v %v", made, err)
 		}
 	}
-	_, look, err = c.Nodes(always, "p1", lrcmand.WithNow())
+	checkRemovals(t, c, nodes, key("remove"))
+}
+
+// checkRemovals has the book p1 go on over its nodes, and removes p2, which is asked for once more.
+func checkRemovals(t *testing.T, c *lrcmand.Client, nodes string, key lrcmand.Option) {
+	t.Helper()
+	_, look, err := c.Nodes(always, "p1", lrcmand.WithNow())
 	if err != nil {
 		t.Fatal(err)
 	}
@@ -242,25 +257,17 @@ func TestChangesOfTheClientAreMadeOnce(t *testing.T) {
 	if err := c.RemoveBook(always, "p1", lrcmand.Position{N: 7, Opens: look.Opens}); !errors.As(err, &told) || told.Code != lrcmand.CodeMoved {
 		t.Errorf("a book that stands elsewhere: %v", err)
 	}
-	for i := 0; i < 2; i++ {
-		if err := c.RemoveBook(always, "p2", positionOf(t, c, "p2"), key("remove")); err != nil && i == 0 {
-			t.Error(err)
-		}
+	_, look, err = c.Nodes(always, "p2", lrcmand.WithNow())
+	for i := 0; i < 2 && err == nil; i++ {
+		err = c.RemoveBook(always, "p2", look.Position(), key)
+	}
+	if err != nil {
+		t.Error(err)
 	}
 	books, _, err := c.Books(always, lrcmand.WithNow())
 	if err != nil || len(books) != 2 {
 		t.Errorf("%+v %v", books, err)
 	}
-}
-
-func positionOf(t *testing.T, c *lrcmand.Client, book string) lrcmand.Position {
-	t.Helper()
-	_, look, err := c.Nodes(always, book, lrcmand.WithNow())
-	var told *lrcmand.Error
-	if err != nil && (!errors.As(err, &told) || told.Code != lrcmand.CodeNoBook) {
-		t.Fatal(err)
-	}
-	return look.Position()
 }
 
 // The other requests are taken too, and the log is that of the book.

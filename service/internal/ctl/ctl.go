@@ -150,8 +150,8 @@ func run(ctx context.Context, words []string, out io.Writer, knobs Knobs) error 
 	return found.run(&session{c, o, knobs, ctx, out}, given)
 }
 
-// parse takes the options out of the words, wherever they stand, and returns the others.
-func (o *options) parse(words []string, out io.Writer) ([]string, error) {
+// flags are the options, which a line sets.
+func (o *options) flags() *flag.FlagSet {
 	server := os.Getenv("LRCMAND_SERVER")
 	if server == "" {
 		server = "http://127.0.0.1:7421"
@@ -172,7 +172,12 @@ func (o *options) parse(words []string, out io.Writer) ([]string, error) {
 	flags.BoolVar(&o.now, "now", false, "tables have all that was told before; ok-to-stop always has")
 	flags.BoolVar(&o.noWait, "no-wait", false, "drain does not wait until the node is empty")
 	flags.DurationVar(&o.timeout, "timeout", 20*time.Second, "how long members are asked before it is given up")
-	rest := []string{}
+	return flags
+}
+
+// parse takes the options out of the words, wherever they stand, and returns the others.
+func (o *options) parse(words []string, out io.Writer) ([]string, error) {
+	flags, rest := o.flags(), []string{}
 	for {
 		if err := flags.Parse(words); errors.Is(err, flag.ErrHelp) {
 			fmt.Fprint(out, help)

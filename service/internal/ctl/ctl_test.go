@@ -128,7 +128,7 @@ func newService(t *testing.T) (*service, string) {
 }
 
 // quick are the knobs of tests: they do not wait as long as people do.
-var quick = Knobs{Attempt: time.Second, LookEach: 10 * time.Millisecond}
+var quick = Knobs{Attempt: 2 * time.Second, LookEach: 10 * time.Millisecond}
 
 // ctl runs a line and returns its status, and what it wrote.
 func ctl(t *testing.T, words ...string) (status int, out, err string) {
@@ -360,7 +360,7 @@ func TestCertificatesAreShownAndChecked(t *testing.T) {
 		{[]string{"--cert", cert, "--key", key}, 1, "certificate"},
 		{[]string{"--ca", key}, 1, "has no certificate"},
 	} {
-		words := append([]string{"books", "--server", server.URL, "--timeout", "100ms"}, it.words...)
+		words := append([]string{"books", "--server", server.URL, "--timeout", "2s"}, it.words...)
 		if status, _, err := ctl(t, words...); status != it.status || !strings.Contains(err, it.err) {
 			t.Errorf("%v: status %d, %s", it.words, status, err)
 		}
