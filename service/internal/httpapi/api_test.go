@@ -20,6 +20,7 @@ import (
 
 	"lrcman/service/internal/book"
 	"lrcman/service/internal/engine"
+	"lrcman/service/internal/openapi"
 	"lrcman/service/internal/replica"
 	"lrcman/service/internal/state"
 	"lrcman/service/internal/testengine"
@@ -104,8 +105,33 @@ func (s *service) ask(method, path, body string, options ...option) (*http.Respo
 	if err != nil {
 		s.t.Fatal(err)
 	}
+	if s.isDescribed(r) {
+		if err := described.Check(method, r.URL.Path, answer.StatusCode, answer.Header.Get("Content-Type"), text); err != nil {
+			s.t.Errorf("%s %s is not as service/openapi.json has it: %v", method, path, err)
+		}
+	}
 	return answer, string(text)
 }
+
+// isDescribed tells whether the answer to a request is one of this package's own routes.
+func (s *service) isDescribed(r *http.Request) bool {
+	route := s.api.find(r, false).route
+	for _, it := range s.api.table() {
+		if route != nil && it.Method == route.Method && it.Pattern == route.Pattern {
+			return r.Method == it.Method
+		}
+	}
+	return route == nil && r.Method != http.MethodHead // (which has no body)
+}
+
+// described is the interface as it is described: each answer of these tests is held against it.
+var described = func() *openapi.Description {
+	d, err := openapi.Load("../../openapi.json")
+	if err != nil {
+		panic(err)
+	}
+	return d
+}()
 
 func (s *service) expect(method, path, body string, status int, want string, options ...option) *http.Response {
 	s.t.Helper()

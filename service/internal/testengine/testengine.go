@@ -71,7 +71,7 @@ func (l *Local) Barrier(context.Context) error {
 func (l *Local) Status() engine.Status {
 	l.mu.Lock()
 	defer l.mu.Unlock()
-	return engine.Status{ID: 1, Leader: l.Leader, Applied: l.index, Members: l.Members, Turned: l.Turned}
+	return engine.Status{ID: 1, Leader: l.Leader, Applied: l.index, Members: append([]engine.Member{}, l.Members...), Turned: l.Turned}
 }
 
 // Add takes any member but 9, as long as this one leads, and 8 only by force.
