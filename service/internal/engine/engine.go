@@ -39,7 +39,7 @@ type Member struct {
 	// It keeps the log and answers as the others, and neither votes nor leads.
 	Learner bool `json:"learner,omitempty"`
 	// The number of its folder: the others hear no other one under its ID. 0 until it has told them.
-	Folder uint64 `json:"folder,omitempty"`
+	Folder uint64 `json:"folder,omitempty,string"` // (a text: not every reader of JSON has numbers of 64 bits)
 	// The leader makes this learner vote once it has what the leader has.
 	Promote bool `json:"promote,omitempty"`
 }

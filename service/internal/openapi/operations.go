@@ -55,7 +55,7 @@ var (
 	fresh     = schema{"index": integer(), "age_ms": integer()}
 	place     = with(fresh, schema{"n": integer(), "opens": integer()})
 	bookPlace = asJSON(object(schema{"n": integer(), "opens": integer(), "again?": boolean()}))
-	member    = schema{"id": integer(), "peer": text(), "client": text(), "learner?": boolean(), "folder?": integer(), "promote?": boolean()}
+	member    = schema{"id": integer(), "peer": text(), "client": text(), "learner?": boolean(), "folder?": text(), "promote?": boolean()}
 	members   = asJSON(object(schema{"members": list(object(with(member, schema{"leader": boolean()}))), "again?": boolean()}))
 	seat      = object(schema{"node": integer(), "slot": integer()})
 	reply     = schema{"reply": text(), "kind": text(), "seats?": list(seat), "stripe?": integer(), "fragment?": integer(), "target?": seat,
@@ -64,6 +64,7 @@ var (
 	table    = tableWith(schema{"rows": list(anyOf(anything()))})
 	forecast = tableWith(schema{"rows": list(anyOf(anything())), "safe": boolean()})
 	status   = asJSON(object(with(schema{"id": integer(), "leader": integer(), "term": integer(), "commit": integer(), "applied": integer(),
+		"last": integer(), "last_term": integer(),
 		"snapshot": integer(), "first": integer(), "members": list(object(member)), "age_ms": integer(), "rules": integer(),
 		"refused": anyOf(integer())})))
 	rules = asJSON(object(schema{"program": integer(), "group": integer(), "form": integer(), "next?": integer(), "next_form?": integer(),
