@@ -15,8 +15,8 @@ import (
 	"lrcman/service/internal/engine"
 )
 
-// A snapshot is this line and then records: a head, the books by name, and an end. Each record is its length, its checksum, which
-// covers the length, and its fields, of which the first is its kind.
+// A snapshot is this line and then records: a head, the books by name, and an end. Each record is its length, its checksum and its
+// fields, of which the first is its kind.
 const (
 	magicMark = "lrcmand books "
 	magic     = magicMark + "2\n"
@@ -170,17 +170,12 @@ func (f *freeze) write(to io.Writer) error {
 	return w.Flush()
 }
 
-// sumOf is the checksum of a record, and of its length.
-func sumOf(length, record []byte) uint32 {
-	return crc32.Update(crc32.Checksum(length, table), table, record)
-}
-
 func writeRecord(w io.Writer, record []byte) error {
 	if len(record) > mostRecord {
 		return fmt.Errorf("a record has %d bytes, and may have %d", len(record), mostRecord)
 	}
-	length := little.AppendUint32(nil, uint32(len(record)))
-	if _, err := w.Write(little.AppendUint32(length, sumOf(length, record))); err != nil {
+	start := little.AppendUint32(nil, uint32(len(record)))
+	if _, err := w.Write(little.AppendUint32(start, crc32.Checksum(record, table))); err != nil {
 		return err
 	}
 	_, err := w.Write(record)
@@ -204,7 +199,7 @@ func readRecord(from io.Reader, kind uint8) (*reader, error) {
 		return nil, damaged(err)
 	}
 	r := &reader{rest: record}
-	if uint32(len(record)) != length || sumOf(start[:4], record) != little.Uint32(start[4:]) || r.u8() != kind {
+	if uint32(len(record)) != length || crc32.Checksum(record, table) != little.Uint32(start[4:]) || r.u8() != kind {
 		return nil, damaged(errors.New("a record is not as it was written"))
 	}
 	return r, nil

@@ -148,6 +148,26 @@ func TestSnapshotsThatNobodyWritesTakeNoRoom(t *testing.T) {
 	}
 }
 
+// Holders are written in their order, and not in that of a map.
+func TestHoldersAreWrittenInOrder(t *testing.T) {
+	p := newPlayer(t)
+	for _, line := range []string{"place 1", "place 2", "place 3", "fail 3", "fail 7", "fail 11"} {
+		p.call(line)
+	}
+	for i := 0; i < 9; i++ {
+		p.as(fmt.Sprint("w", i), "next")
+	}
+	snapshot := p.snapshot()
+	if count := len(p.restored(snapshot).s.books["p0"].holders); count < 3 {
+		t.Errorf("%d holders", count)
+	}
+	for i := 0; i < 5; i++ {
+		if !bytes.Equal(p.restored(snapshot).snapshot(), snapshot) {
+			t.Fatal("they are written otherwise")
+		}
+	}
+}
+
 // A snapshot that is being written when a member begins in another one does not mix the two.
 func TestASnapshotIsGivenUpWhereAnotherTakesItsPlace(t *testing.T) {
 	p := full(t)
