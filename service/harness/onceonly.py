@@ -1,4 +1,5 @@
-"""What the service tells of a call is so: 200 once, 503 and 429 never, 504 at most once; and ticks come no faster than they may."""
+"""What the service tells of a call is so: 200 once, 503 and 429 never, 504 at most once. Ticks come no faster than they may, and a
+member that differs from the others is not ready."""
 import json
 import threading
 import time
@@ -144,7 +145,8 @@ def test_forgotten_key(count, program, folder, topology):
         asked.join(60)
         is_unknown = asked.status == 504 and asked.told["maybe"] and asked.told["code"] == "outcome_unknown"
         count.check(f"nobody knows: {asked.status} {asked.told}", is_unknown)
-        again = asked_for(lambda: Asker(30).json(port, "POST", f"/books/{BOOK}/call", {**body, "since": asked.told.get("since", 0)}), [200, 409])
+        body["since"] = asked.told.get("since", 0)
+        again = asked_for(lambda: Asker(30).json(port, "POST", f"/books/{BOOK}/call", body), [200, 409])
         count.check(f"its key may be forgotten: {again}", again[0] == 409 and again[1]["code"] == "key_forgotten")
         log = log_of(group, deaf)
         commands = [entry["command"] for entry in log]
@@ -261,7 +263,8 @@ def test_without_quorum(count, program, folder, topology):
             group.leader()
         faults = list(calls.faults(log_of(group, leader)))
         count.check(f"what was told 503 is not made later: {faults[:3]}", not faults)
-        count.check(f"something happened: {calls.count(200)}, {calls.count(503)}", calls.count(200) > 70 and calls.count(503) > 20)
+        happened = calls.count(200), calls.count(503)
+        count.check(f"something happened: {happened}", happened[0] > 70 and happened[1] > 20)
 
 
 def test_ticks(count, program, folder, _):

@@ -60,7 +60,8 @@ func TestEachChangeMayHaveAKey(t *testing.T) {
 			s.refused(it.method, it.path+"key=k", nodes(3), 409, "the key was used for another request")
 		}
 		asked = s.wrong(1, false, engine.ErrOutcomeUnknown)
-		if _, fail := s.failed(it.method, it.path, it.body); fail.Status != 504 || !fail.Maybe || fail.Since != nil || atomic.LoadInt32(asked) != 1 {
+		_, fail := s.failed(it.method, it.path, it.body)
+		if fail.Status != 504 || !fail.Maybe || fail.Since != nil || atomic.LoadInt32(asked) != 1 {
 			t.Errorf("%s %s without a key: %+v, proposed %d times", it.method, it.path, fail, atomic.LoadInt32(asked))
 		}
 	}
@@ -75,7 +76,8 @@ func TestNobodyKnowsIsToldWithSince(t *testing.T) {
 	if text != `{"status":504,"code":"outcome_unknown","error":"nobody knows whether it was made","maybe":true,"since":2}`+"\n" {
 		t.Error(text)
 	}
-	if _, fail := s.failed("POST", "/books/p0/call", `{"command":"tick","key":"b","since":1}`); fail.Since == nil || *fail.Since != 1 {
+	_, fail := s.failed("POST", "/books/p0/call", `{"command":"tick","key":"b","since":1}`)
+	if fail.Since == nil || *fail.Since != 1 {
 		t.Errorf("%+v", fail)
 	}
 	s.wrong(0, true, nil)
@@ -100,7 +102,8 @@ func (s *service) fillKeys() {
 	for c := 0; c < 32; c++ {
 		go func() {
 			for i := range next {
-				if answer, text := s.ask("POST", "/books/p0/call", fmt.Sprintf(`{"command":"tick","key":"fill%d"}`, i)); answer.StatusCode != 200 {
+				body := fmt.Sprintf(`{"command":"tick","key":"fill%d"}`, i)
+				if answer, text := s.ask("POST", "/books/p0/call", body); answer.StatusCode != 200 {
 					s.t.Error(text)
 				}
 			}
@@ -130,17 +133,10 @@ func TestAKeyThatMayBeForgottenIsRefused(t *testing.T) {
 	if !strings.Contains(text, fmt.Sprintf(`"n":%d,`, state.MostKeys+2)) {
 		t.Errorf("it was made: %.200s", text)
 	}
-	s.expect("POST", "/books/p0/call", `{"command":"place 1","key":"new","at":0,"opens":1024}`, 409, strings.TrimSuffix(s.text("POST", "/books/p0/call",
-		`{"command":"place 1","at":0,"opens":1024}`), "\n"))
+	s.refused("POST", "/books/p0/call", `{"command":"place 1","key":"new","at":0,"opens":1024}`, 409, "the book stands at")
 	if answer, text := s.ask("POST", "/books/p0/call", `{"command":"place 1","key":"new"}`); answer.StatusCode != 200 {
 		t.Error(text)
 	}
-}
-
-func (s *service) text(method, path, body string) string {
-	s.t.Helper()
-	_, text := s.ask(method, path, body)
-	return text
 }
 
 // What the service refuses is not kept under a key: the same request may be made later.
@@ -239,7 +235,8 @@ func TestEachLookAsOfNowAsksFirst(t *testing.T) {
 			continue
 		}
 		path := strings.NewReplacer("{book}", "p0", "{stripe}", "1", "{view}", "status").Replace(route.Pattern)
-		query := map[string]string{"peek": "&command=tick", "recipe": "&stripe=1&fragment=0&missing=0", "may-stop": "&node=1", "may-lose": "&node=1"}
+		query := map[string]string{"peek": "&command=tick", "recipe": "&stripe=1&fragment=0&missing=0", "may-stop": "&node=1",
+			"may-lose": "&node=1"}
 		more := query[path[strings.LastIndex(path, "/")+1:]]
 		if path != "/backup" { // (which the engine of this test breaks off while it is silent)
 			if answer, text := s.ask(route.Method, path+"?now=0"+more, ""); answer.StatusCode != http.StatusOK {
@@ -262,7 +259,9 @@ func TestABookThatDiffersIsShownToNobody(t *testing.T) {
 	propose(&state.Item{Action: state.Digest, Book: "p0"})
 	s.expect("GET", "/health", "", 200, `{"ok":true}`)
 	at := s.state.Digests()[0].At
-	propose(&state.Item{Action: state.Report, Book: "p0", Digest: at, Member: 2}, &state.Item{Action: state.Report, Book: "p0", Digest: at, Member: 3})
+	for id := uint64(2); id <= 3; id++ {
+		propose(&state.Item{Action: state.Report, Book: "p0", Digest: at, Member: id})
+	}
 	for _, path := range []string{"/health", "/books/p0", "/books/p0/image", "/books/p0/log"} {
 		if _, fail := s.failed("GET", path, ""); fail.Status != 503 || fail.Code != "differs" {
 			t.Errorf("%s: %+v", path, fail)

@@ -55,7 +55,7 @@ func (m *member) settled() uint64 {
 	return last
 }
 
-// The leader asks for the checksum of a book that has changed, and tells its own: two entries. What has not changed is left alone.
+// The leader asks for the checksum of a book that has changed, and tells its own: two entries. What has not changed is left out.
 func TestWhatHasChangedIsCompared(t *testing.T) {
 	m, _ := newCompared(t, 1)
 	m.propose(&state.Item{Action: state.Create, Book: "p1", Nodes: nodes()})
@@ -127,7 +127,8 @@ func TestAMemberThatDiffersSaysSo(t *testing.T) {
 	}
 	m.eventually(func() bool { return words.String() != "" })
 	m.settled()
-	if text := words.String(); strings.Count(text, "\n") != 1 || !strings.HasPrefix(text, "book p0 of this member is not that of the others") {
+	text := words.String()
+	if strings.Count(text, "\n") != 1 || !strings.HasPrefix(text, "book p0 of this member is not that of the others") {
 		t.Errorf("%q", text)
 	}
 	if err := m.state.Look("p0", func(*state.View) error { return nil }); err != state.ErrDiffers {

@@ -129,7 +129,8 @@ func (q *queue) take() *entry {
 	return e
 }
 
-// leave is called by a caller who does not wait any more. It returns what that one is told: what has just come, or why nothing has.
+// leave is called by a caller who does not wait any more. It returns what that one is told: what has just come, or why nothing
+// has.
 func (q *queue) leave(p *pending) (state.Answer, error) {
 	q.mu.Lock()
 	defer q.mu.Unlock()
@@ -185,8 +186,8 @@ func (q *queue) answer(e *entry, answers []state.Answer) {
 	q.putBack(again)
 }
 
-// fail goes on after an entry was not told. What was not proposed waits for another one, and so does an item with a key: it is made
-// once, however often it comes. Nothing else is proposed twice.
+// fail goes on after an entry was not told. What was not proposed waits for another one, and so does an item with a key: it is
+// made once, however often it comes. Nothing else is proposed twice.
 func (q *queue) fail(e *entry, err error) {
 	q.mu.Lock()
 	defer q.mu.Unlock()

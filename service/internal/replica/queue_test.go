@@ -4,6 +4,7 @@ import (
 	"context"
 	"errors"
 	"fmt"
+	"reflect"
 	"sync"
 	"testing"
 	"time"
@@ -93,7 +94,8 @@ func TestAKeyedItemHasOneSinceInAllProposals(t *testing.T) {
 	}
 }
 
-// A key that was forgotten between two proposals of its item does not make the item twice, and nobody is told that nothing was made.
+// A key that was forgotten between two proposals of its item does not make the item twice, and nobody is told that nothing was
+// made.
 func TestAnItemIsNotMadeTwiceAfterItsKeyIsForgotten(t *testing.T) {
 	m := newMember(t, nil)
 	hold, asked := make(chan struct{}), 0
@@ -112,7 +114,7 @@ func TestAnItemIsNotMadeTwiceAfterItsKeyIsForgotten(t *testing.T) {
 	_, err := m.replica.Do(context.Background(), call("place 1", "once"))
 	var unknown *Unknown
 	if !errors.As(err, &unknown) || !unknown.HasKey || unknown.Since != 1 {
-		t.Errorf("%v", err)
+		t.Fatalf("%v", err)
 	}
 	again := call("place 1", "once")
 	again.Since = unknown.Since
@@ -152,7 +154,8 @@ func TestASinceIsRenewedOnlyWhereNothingWasMade(t *testing.T) {
 	if err != nil || answer.Rejected != 0 || answer.IsAgain {
 		t.Errorf("%+v, %v", answer, err)
 	}
-	if all := asked(); len(all) != 2 || all[0] != m.payload(call("tick", "late"), 1) || all[1] != m.payload(call("tick", "late"), answer.At.Index-1) {
+	want := []string{m.payload(call("tick", "late"), 1), m.payload(call("tick", "late"), answer.At.Index-1)}
+	if all := asked(); !reflect.DeepEqual(all, want) {
 		t.Errorf("%q, %+v", all, answer)
 	}
 	own := call("tick", "own")
@@ -236,9 +239,13 @@ func TestWhatWasNotProposedIsTellable(t *testing.T) {
 		t.Errorf("too much to be committed: %v", err)
 	}
 	m.fated(noLeader)
-	if _, err := m.within(200*time.Millisecond, call("tick", "")); err != engine.ErrNoLeader {
-		t.Error(err)
-	}
+	m.eventually(func() bool { // (whoever leaves just as it is proposed hears that nobody knows)
+		_, err := m.within(100*time.Millisecond, call("tick", ""))
+		if err != engine.ErrNoLeader && !errors.Is(err, engine.ErrOutcomeUnknown) {
+			t.Fatal(err)
+		}
+		return err == engine.ErrNoLeader
+	})
 	m.fated(noLeader, noLeader, made)
 	m.call("tick")
 	if made := m.made(); made != 1 {
@@ -318,8 +325,13 @@ func TestAnEntryEndsWithTheLastOfItsCallers(t *testing.T) {
 	m.eventually(func() bool { return m.waiting() == 2 })
 	m.run()
 	wait.Wait()
-	if at := <-e.ended; at.Before(last) || at.After(last.Add(5*time.Second)) {
-		t.Errorf("it ended at %v, and the last caller left at %v", at, last)
+	select {
+	case at := <-e.ended:
+		if at.Before(last) {
+			t.Errorf("it ended at %v, and the last caller left at %v", at, last)
+		}
+	case <-time.After(20 * time.Second):
+		t.Fatal("it does not end")
 	}
 	time.Sleep(5 * retryTime)
 	if len(e.ended) > 0 || m.waiting() > 0 {

@@ -43,10 +43,9 @@ func newMember(t *testing.T, change func(*Config)) *member {
 	if change != nil {
 		change(&cfg)
 	}
-	if _, err := e.Propose(context.Background(), books.Encode([]*state.Item{{Action: state.Create, Book: "p0", Nodes: nodes()}})); err != nil {
-		t.Fatal(err)
-	}
-	return &member{t, e, books, New(cfg)}
+	m := &member{t, e, books, New(cfg)}
+	m.propose(&state.Item{Action: state.Create, Book: "p0", Nodes: nodes()})
+	return m
 }
 
 func (m *member) run() *member {
@@ -199,7 +198,8 @@ func TestWhatNobodyWaitsForIsNotProposed(t *testing.T) {
 // What may be made twice is not proposed again once its fate is unknown: a book that was made, or removed, under a name meanwhile
 // would be another one.
 func TestWhatHasNoKeyIsNotProposedAgain(t *testing.T) {
-	for _, item := range []*state.Item{call("tick", ""), {Action: state.Create, Book: "p1", Nodes: nodes()}, {Action: state.Reopen, Book: "p0", Nodes: nodes()},
+	for _, item := range []*state.Item{call("tick", ""),
+		{Action: state.Create, Book: "p1", Nodes: nodes()}, {Action: state.Reopen, Book: "p0", Nodes: nodes()},
 		{Action: state.Remove, Book: "p0", At: &state.Position{Made: 0, Opens: 1}}, {Action: state.ChangeRules, Rules: 7}} {
 		m := newMember(t, nil).run()
 		asked := m.fated(lostWord)

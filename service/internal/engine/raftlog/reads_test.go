@@ -46,7 +46,8 @@ func newFaked(t *testing.T) (*Node, *fakeRaft) {
 		t.Fatal(err)
 	}
 	f := &fakeRaft{reads: make(chan uint64, 1000), proposed: make(chan context.Context, 10)}
-	n := &Node{cfg: Config{Self: alone}, machine: &list{}, raft: f, numbers: numbers, waiting: map[uint64]chan outcome{}, reads: map[uint64]chan uint64{},
+	n := &Node{cfg: Config{Self: alone}, machine: &list{}, raft: f, numbers: numbers,
+		waiting: map[uint64]chan outcome{}, reads: map[uint64]chan uint64{},
 		round: newRound(), readers: make(chan struct{}, 1), snapshots: make(chan chan error), done: make(chan struct{})}
 	go n.readLoop()
 	t.Cleanup(func() { close(n.done) })
@@ -111,9 +112,9 @@ func TestAReaderIsAskedForAfterItCame(t *testing.T) {
 	t.Parallel()
 	n, f := newFaked(t)
 	one := reader(context.Background(), n)
-	first := <-f.reads
+	first, before := <-f.reads, n.readersWaiting()
 	other := reader(context.Background(), n)
-	eventually(t, "the other one comes", func() bool { return n.readersWaiting() == 1 })
+	eventually(t, "the other one comes", func() bool { return n.readersWaiting() > before })
 	n.answerRead(first)
 	if err := <-one; err != nil {
 		t.Error(err)
@@ -171,7 +172,8 @@ func TestAProposalThatRaftDoesNotTakeIsToldWhy(t *testing.T) {
 		t.Errorf("without a leader: %v, and raft was asked %d times", err, len(f.proposed))
 	}
 	n.lead = 1
-	leads := raft.Status{BasicStatus: raft.BasicStatus{SoftState: raft.SoftState{RaftState: raft.StateLeader}}, Progress: map[uint64]tracker.Progress{1: {}}}
+	leads := raft.Status{Progress: map[uint64]tracker.Progress{1: {}}}
+	leads.RaftState = raft.StateLeader
 	moves, removed := leads, leads
 	moves.LeadTransferee, removed.Progress = 2, nil
 	for name, it := range map[string]struct {
