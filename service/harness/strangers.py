@@ -76,8 +76,8 @@ class Hand(threading.Thread):
         group, spoken_to = target["group"], self.starts[to]["number"]
         if who == "stranger":
             number = chance.choice([99, 4, 0, 65535, 1 << 40])
-            it = {"member": number, "folder": chance.getrandbits(64), "starts": chance.randrange(9), "number": chance.getrandbits(64),
-                  "term": 1, "last": 1}
+            it = {"member": number, "folder": chance.getrandbits(64), "starts": chance.randrange(9),
+                  "number": chance.getrandbits(64), "term": 1, "last": 1}
             return it, group, spoken_to
         it = dict(self.starts[chance.choice([number for number in self.starts if number != to])])
         if who == "other group":
@@ -101,9 +101,9 @@ class Hand(threading.Thread):
             query = chance.choice(["", "member=1", query.replace("&", ";")])
         length = chance.choice([1 << 30, 1 << 62, len(body) + 1000]) if chance.random() < 0.1 else len(body)
         address = chance.choice(["http://127.0.0.1:9", "nonsense", "http://[::1", "unix://h:1"])
-        heads = [f"{method} {path}?{query} HTTP/1.1", "Host: h", f"X-Server-From: {it['member']:x}", f"X-Etcd-Cluster-ID: {group:x}",
-                 "X-Server-Version: 3.4.23", "X-Min-Cluster-Version: 3.0.0", f"X-Raft-To: {to:x}", f"X-PeerURLs: {address}",
-                 f"Content-Length: {length}"]
+        heads = [f"{method} {path}?{query} HTTP/1.1", "Host: h", f"X-Server-From: {it['member']:x}",
+                 f"X-Etcd-Cluster-ID: {group:x}", "X-Server-Version: 3.4.23", "X-Min-Cluster-Version: 3.0.0",
+                 f"X-Raft-To: {to:x}", f"X-PeerURLs: {address}", f"Content-Length: {length}"]
         return self.group.members[to].peer, "\r\n".join(heads).encode() + b"\r\n\r\n" + body
 
     def body(self, who, sender, to):
@@ -113,26 +113,29 @@ class Hand(threading.Thread):
         if who == "member":
             kinds = [message(PROP, sender, to, 0, [(0, b"12345678" + garbage)]), message(PROP, sender, to, 0),
                      message(PROP, sender, to, 0, [(1, garbage)]), message(PROP, sender, to, 0, [(2, garbage)]),
-                     message(READ, sender, to, 0), message(READ_ANSWER, sender, to, 0, [(0, b"1")]), message(VOTE, sender, to, 1 << 60),
-                     message(SNAP, sender, to, 1), message(PROP, 99, to, 0, [(0, b"12345678x")]), b"\xff" + garbage]
+                     message(READ, sender, to, 0), message(READ_ANSWER, sender, to, 0, [(0, b"1")]),
+                     message(VOTE, sender, to, 1 << 60), message(SNAP, sender, to, 1),
+                     message(PROP, 99, to, 0, [(0, b"12345678x")]), b"\xff" + garbage]
         else:
-            kinds = [message(PROP, sender, to, 0, [(0, b"12345678" + garbage)]), message(VOTE, sender, to, term, context=b"CampaignTransfer"),
-                     message(APP, sender, to, term, [(0, garbage)], index=chance.randrange(9)), message(HEARTBEAT, sender, to, term),
-                     message(MOVE, sender, to, 0), message(NOW, sender, to, term), message(READ, sender, to, 0, [(0, b"12345678")]), garbage]
+            kinds = [message(PROP, sender, to, 0, [(0, b"12345678" + garbage)]),
+                     message(VOTE, sender, to, term, context=b"CampaignTransfer"), message(HEARTBEAT, sender, to, term),
+                     message(APP, sender, to, term, [(0, garbage)], index=chance.randrange(9)),
+                     message(MOVE, sender, to, 0), message(NOW, sender, to, term),
+                     message(READ, sender, to, 0, [(0, b"12345678")]), garbage]
         text = chance.choice(kinds)
         if chance.random() < 0.2:
             snapshot = field(2, field(2, 10**6) + field(3, 10**6)) if who != "member" else b""
             text = message(SNAP if who != "member" else PROP, sender, to, 10**6, snapshot=snapshot)
             length = chance.choice([len(text), 1 << 60, (1 << 64) - 1])
             return "/raft/snapshot", struct.pack(">Q", length) + text + garbage
-        others = ["/", "/raft/", "/raft/probing", "/raft/stream/msgapp/1", "/raft/stream/message/63", "/lrcmand/known", "/lrcmand/meet",
-                  "/metrics", "/raft/stream/x/%2e%2e"]
+        others = ["/", "/raft/", "/raft/probing", "/raft/stream/msgapp/1", "/raft/stream/message/63", "/lrcmand/known",
+                  "/lrcmand/meet", "/metrics", "/raft/stream/x/%2e%2e"]
         if who != "member" and chance.random() < 0.2:
             return chance.choice(others), b""
         return "/raft", text
 
     def send(self, port, text):
-        """Sends a request, and returns the status; 0 if there is none. Sometimes only a part is sent, and nothing is waited for."""
+        """Sends a request, and returns its status, or what else comes of it. Sometimes a part is sent, and nothing waited for."""
         with socket.create_connection(("127.0.0.1", port), 10) as link:
             try:
                 if self.random.random() < 0.1:
@@ -174,7 +177,8 @@ def crowd(port):
 def expect_bounds(count, group, before, terms):
     for number, member in group.members.items():
         memory, now = memory_of(member), group.status(member).get("term", 0)
-        count.check(f"member {number} has {memory >> 20} MB, and had {before[number] >> 20}", memory < before[number] + MOST_MEMORY)
+        had = before[number]
+        count.check(f"member {number} has {memory >> 20} MB, and had {had >> 20}", memory < had + MOST_MEMORY)
         count.check(f"member {number} went from term {terms} to {now}", now <= terms + MOST_TERMS)
 
 
@@ -207,7 +211,8 @@ def test_strangers(count, program, room, nodes):
         count.check(f"there are no other books: {books}", len(books) == 3)
         made = sum(it.n > 0 for it in work.told())
         count.check(f"there are no other entries: {run.entries} for {made} calls", run.entries == made)
-        count.check(f"all go on: {[it.said()[-300:] for it in group.members.values()]}", all(it.runs() for it in group.members.values()))
+        members = list(group.members.values())
+        count.check(f"all go on: {[it.said()[-300:] for it in members]}", all(it.runs() for it in members))
 
 
 def expect_crowd(count, group, work):

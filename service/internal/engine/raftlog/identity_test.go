@@ -5,6 +5,7 @@ import (
 	"errors"
 	"fmt"
 	"io"
+	"net"
 	"os"
 	"path/filepath"
 	"strings"
@@ -311,7 +312,7 @@ func empty(t *testing.T, folder string) {
 	}
 }
 
-// Two of three told entries, and one of these lost its folder: with the third it must not be a majority that never heard of them.
+// Two of three told entries, and one of these lost its folder: with the third it must not be a majority that knows of none.
 func TestAnEmptiedFolderIsRefusedAndNothingToldIsLost(t *testing.T) {
 	t.Parallel()
 	for name, change := range map[string]func(*Config){
@@ -397,7 +398,8 @@ func endsRefused(t *testing.T, cfg Config, words string) {
 	if err := n.Err(); !errors.Is(err, engine.ErrLost) || !strings.Contains(err.Error(), words) {
 		t.Errorf("%v", err)
 	}
-	if _, err := Start(cfg, &list{}); !errors.Is(err, engine.ErrLost) || !strings.Contains(err.Error(), "is not started again: "+words) {
+	again := "is not started again: " + words
+	if _, err := Start(cfg, &list{}); !errors.Is(err, engine.ErrLost) || !strings.Contains(err.Error(), again) {
 		t.Errorf("the next start: %v", err)
 	}
 }
@@ -437,6 +439,31 @@ func TestAnOlderCopyOfAFolderIsRefused(t *testing.T) {
 			g.alike(all)
 		})
 	}
+}
+
+// A member that starts again asks the others first: a vote or an acknowledgement of an older copy would count at once.
+func TestAMemberTakesNoPartBeforeItHasAsked(t *testing.T) {
+	t.Parallel()
+	g := groupOf(t, 3)
+	propose(t, g.nodes[1], "entry 1")
+	g.alike(texts(1, 1))
+	g.close(1, 2, 3)
+	silent, err := net.Listen("tcp", g.configs[2].Self.Peer) // (it takes connections, and answers nothing)
+	if err != nil {
+		t.Fatal(err)
+	}
+	n, err := Start(g.configs[1], &list{})
+	if err != nil {
+		t.Fatal(err)
+	}
+	defer n.Close()
+	if n.takesPart() {
+		t.Error("it takes part at once")
+	}
+	eventually(t, "it takes part once it has asked", n.takesPart)
+	silent.Close()
+	g.start(2)
+	propose(t, g.nodes[2], "entry 2")
 }
 
 // What members have acknowledged is known after restarts of the others, too.

@@ -156,6 +156,7 @@ func (n *Node) meet() error {
 			return err
 		}
 		if first != nil {
+			n.cfg.Log.Printf("this member begins a new group of %d, in the folder %s", len(first), n.cfg.Dir)
 			sum := sumOfFirst(n.cfg.Name, first)
 			return n.takeGroup(binary.LittleEndian.Uint64(sum[:])|1, first)
 		}

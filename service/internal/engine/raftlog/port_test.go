@@ -193,8 +193,8 @@ func TestWhatNoMemberSendsIsNotTakenFromOne(t *testing.T) {
 			t.Errorf("%s: %d %s", kind, status, words)
 		}
 	}
-	for kind, body := range map[string]string{"garbage": "garbage", "nothing": "", "a huge length": "\x7f\xff\xff\xff\xff\xff\xff\xffx",
-		"no message": "\x00\x00\x00\x00\x00\x00\x00\x01\xff", "a cut one": "\x00\x00\x00\x00\x00\x00\x00\x09x"} {
+	for kind, body := range map[string]string{"garbage": "garbage", "nothing": "",
+		"a huge length": "\x7f\xff\xff\xff\xff\xff\xff\xffx", "no message": "\x00\x00\x00\x00\x00\x00\x00\x01\xff", "a cut one": "\x00\x00\x00\x00\x00\x00\x00\x09x"} {
 		if status, words := h.do(h.request(http.MethodPost, "/raft/snapshot", strings.NewReader(body))); status/100 != 4 {
 			t.Errorf("a snapshot of %s: %d %s", kind, status, words)
 		}
