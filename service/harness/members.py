@@ -132,7 +132,7 @@ def test_stranding(count, program, room, topology):
         is_right = status == 409 and "were heard of" in told.get("error", "")
         count.check(f"it would strand the group: {status} {told}", is_right)
         call_in_time(count, group, one, "a")
-        status, told = group.asker.json(one.client, "DELETE", f"/members/{away}")
+        status, told = asked_for(lambda: group.asker.json(one.client, "DELETE", f"/members/{away}"), [200], 20)
         count.check(f"one that is away is removed: {status} {told}", status == 200)
         call_in_time(count, group, one, "b")
 

@@ -155,8 +155,8 @@ func (n *Node) checkReady(id uint64) error {
 		return engine.Refused(fmt.Sprintf("member %d lacks %d entries, and was not heard of for %v", id, lacks, n.cfg.Election))
 	case lacks > mostLag:
 		return engine.Refused(fmt.Sprintf("member %d lacks %d entries, and may vote once it lacks no more than %d", id, lacks, mostLag))
-	case progress.State != tracker.StateReplicate: // (it may lack a snapshot: few entries, and large ones)
-		return engine.Refused(fmt.Sprintf("member %d lacks %d entries, and does not follow yet", id, lacks))
+	case progress.Match == 0 || progress.State == tracker.StateSnapshot: // (few entries may be in a large snapshot)
+		return engine.Refused(fmt.Sprintf("member %d lacks %d entries, and is still to get a snapshot, or the first of them", id, lacks))
 	}
 	return nil
 }

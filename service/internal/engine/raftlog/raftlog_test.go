@@ -786,14 +786,21 @@ func (g *group) heard(change asked) (isAgain bool, err error) {
 	return isAgain, err
 }
 
-// must asks for a change that is lawful.
+// must asks for a change that is lawful. (On a busy machine a member may be heard of late)
 func (g *group) must(change asked) (isAgain bool) {
 	g.t.Helper()
 	isAgain, err := g.heard(change)
+	for end := time.Now().Add(long); isUnheard(err) && time.Now().Before(end); {
+		isAgain, err = g.heard(change)
+	}
 	if err != nil {
 		g.t.Fatal(err)
 	}
 	return isAgain
+}
+
+func isUnheard(err error) bool {
+	return err != nil && strings.Contains(err.Error(), "were heard of within")
 }
 
 // refused expects a change that is not lawful, by the words.
@@ -868,7 +875,7 @@ func (g *group) removeLeader() uint64 {
 	for g.nodes[gone].Err() == nil && ctx.Err() == nil { // (the leader may end before it hears)
 		_, err := g.nodes[gone].Remove(ctx, gone, false)
 		var refused engine.Refused
-		if errors.As(err, &refused) {
+		if errors.As(err, &refused) && !isUnheard(err) {
 			g.t.Fatal(err)
 		}
 	}

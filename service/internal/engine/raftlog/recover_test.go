@@ -203,6 +203,26 @@ func TestABackupThatIsNotWholeIsRefused(t *testing.T) {
 	}
 }
 
+// The mark of a restored folder says that its log is not to be empty.
+func TestARestoredFolderWithoutItsLogIsRefused(t *testing.T) {
+	t.Parallel()
+	cfg, _ := configOf(t, t.TempDir(), alone, alone)
+	n, _ := begin(t, cfg)
+	propose(t, n, "entry 1")
+	to, _ := configOf(t, filepath.Join(t.TempDir(), "new"), alone, alone)
+	if _, err := Restore(to, &list{}, bytes.NewReader(backupOf(t, n))); err != nil {
+		t.Fatal(err)
+	}
+	for _, name := range []string{"wal", "snap", identityName} {
+		if err := os.RemoveAll(filepath.Join(to.Dir, name)); err != nil {
+			t.Fatal(err)
+		}
+	}
+	if _, err := Start(to, &list{}); err == nil || !strings.Contains(err.Error(), "the log is damaged: it ends at entry 0") {
+		t.Error(err)
+	}
+}
+
 func TestABackupIsRestoredIntoAnEmptyFolderAlone(t *testing.T) {
 	t.Parallel()
 	cfg, _ := configOf(t, t.TempDir(), alone, alone)
