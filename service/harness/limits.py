@@ -1,5 +1,5 @@
-"""What clients may do to a member, whether they mean it or not: thousands of connections that say nothing, bodies without end, requests
-by chance, pages of elsewhere that command it, and tokens and certificates that ask for more than they may."""
+"""What clients may do to a member, whether they mean it or not: thousands of connections that say nothing, bodies without end,
+requests by chance, pages of elsewhere that command it, and tokens and certificates that ask for more than they may."""
 import http.client
 import json
 import os
@@ -125,6 +125,12 @@ def asked_once(port, context=None):
         return 0
 
 
+def wait_well(port, limit=30):
+    end = time.monotonic() + limit
+    while asked_once(port) != 200 and time.monotonic() < end:
+        time.sleep(0.02)
+
+
 def check_times(count, what, took, quiet):
     """Being told takes a tenth of a second, and never more than one, unless the machine is so slow by itself."""
     middle, most = statistics.median(took), max(took)
@@ -181,9 +187,7 @@ def test_silent_handshakes(count, program, room, nodes):
     member = Member(group, 1, words)
     try:
         member.start()
-        end = time.monotonic() + 30
-        while asked_once(watch) != 200 and time.monotonic() < end:
-            time.sleep(0.02)
+        wait_well(watch)
         context = keys.context()
         quiet = healthy(lambda: asked_once(member.client, context))
         held = hold(member.client, "", may_open(CONNECTIONS))
@@ -200,10 +204,18 @@ BODIES = 100
 MOST_RESIDENT = 600_000  # kB
 
 
+def run_all(threads, limit=90):
+    for thread in threads:
+        thread.start()
+    for thread in threads:
+        thread.join(limit)
+
+
 def send_image(port, number, answers):
     """Sends a body with an image of 8 MiB, and notes what is told; a status of 0 is no answer."""
     text = json.dumps({"nodes": "x", "image": "y" * (IMAGE - 40)}).encode()
-    head = f"PUT /books/i{number} HTTP/1.1\r\nHost: localhost\r\nContent-Type: application/json\r\nContent-Length: {len(text)}\r\n\r\n"
+    head = f"PUT /books/i{number} HTTP/1.1\r\nHost: localhost\r\nContent-Type: application/json\r\n"
+    head += f"Content-Length: {len(text)}\r\n\r\n"
     with socket.create_connection(("127.0.0.1", port), 60) as one:
         try:
             one.sendall(head.encode() + text)
@@ -221,18 +233,15 @@ def test_bodies(count, program, room, nodes):
     """100 bodies of 8 MiB at once: each is told what becomes of it, and memory is bounded. Calls go on."""
     with Alone(program, f"{room}/bodies", nodes) as alone, Caller(alone.member.client) as caller:
         answers, begun = [], time.monotonic()
-        senders = [threading.Thread(target=send_image, args=(alone.member.client, number, answers)) for number in range(BODIES)]
-        for sender in senders:
-            sender.start()
         told = caller.told
-        for sender in senders:
-            sender.join(90)
+        run_all([threading.Thread(target=send_image, args=(alone.member.client, number, answers)) for number in range(BODIES)])
         took, calls, most = time.monotonic() - begun, caller.told - told, alone.status_file("VmHWM")
         busy = [it for it in answers if it[0] == 503]
         taken = [it for it in answers if it[0] == 422]
-        print(f"{BODIES} bodies of 8 MiB: {len(taken)} judged, {len(busy)} refused in {took:.1f} s, {calls} calls, {most} kB", flush=True)
-        is_right = len(answers) == BODIES and len(busy) + len(taken) == BODIES and taken and busy
-        count.check(f"each is told: {[it for it in answers if it[0] not in (422, 503)][:3]}, {len(answers)}", is_right)
+        words = f"{BODIES} bodies of 8 MiB: {len(taken)} judged, {len(busy)} refused in {took:.1f} s, {calls} calls, {most} kB"
+        print(words, flush=True)
+        other = [it for it in answers if it[0] not in (422, 503)]
+        count.check(f"each is told: {words} {other[:3]}", len(answers) == BODIES and not other and taken and busy)
         is_named = all(told["code"] == "busy" and headers["Retry-After"] for _, told, headers in busy)
         count.check(f"those that are refused are told so: {busy[:2]}", is_named)
         count.check(f"memory: {most} kB", most < MOST_RESIDENT)
@@ -241,16 +250,19 @@ def test_bodies(count, program, room, nodes):
 
 # Requests by chance.
 
-WORDS = ["books", "p0", "b1", "b2", "%2e%2e", "..", "a%00b", "x" * 70, "call", "nodes", "image", "log", "peek", "show", "status", "stripes",
-         "leases", "1", "4096", "workers", "may-stop", "may-lose", "recipe", "health", "metrics", "version", "members", "leader", "0",
-         "snapshot", "matrix", "events", "é", "", "%", "*"]
-QUERIES = ["now=1", "now=2", "format=csv", "from=0", "follow=0", "session=9", "command=tick", "node=1", "fault=0", "code=wide", "stripe=1",
-           "fragment=3", "missing=2", "%zz", "a=b&a=c", "key=k", "since=1"]
-BODY_TEXTS = [TICK, "{}", "[]", '{"command":"place 1"}', '{"command":"next","worker":"w"}', '{"command":1}', '{"command":"tick"', "\xff\xfe",
-              '{"nodes":"x","image":"y"}', "[[node]]\nnumber = 1\n", '{"at":0,"opens":1}', '{"command":"lease 1 1","key":"k"}', "x" * 5000]
-HEADERS = ["Host: localhost", "Host: evil.example", "Host:", "Content-Type: application/json", "Content-Type: text/plain", "Connection: close",
-           "Expect: 100-continue", "Expect: x", "Transfer-Encoding: chunked", "Transfer-Encoding: x", "Content-Length: -1", "Content-Length: 5",
-           "Authorization: Bearer x", "Origin: null", "Sec-Fetch-Site: cross-site", "X: " + "y" * 20000, "a b: c", ": x", "Upgrade: h2c"]
+WORDS = ["books", "p0", "b1", "b2", "%2e%2e", "..", "a%00b", "x" * 70, "call", "nodes", "image", "log", "peek", "show", "status",
+         "stripes", "leases", "1", "4096", "workers", "may-stop", "may-lose", "recipe", "health", "metrics", "version", "members",
+         "leader", "0", "snapshot", "matrix", "events", "\xe9", "", "%", "*"]
+QUERIES = ["now=1", "now=2", "format=csv", "from=0", "follow=0", "session=9", "command=tick", "node=1", "fault=0", "code=wide",
+           "stripe=1", "fragment=3", "missing=2", "%zz", "a=b&a=c", "key=k", "since=1"]
+BODY_TEXTS = [TICK, "{}", "[]", '{"command":"place 1"}', '{"command":"next","worker":"w"}', '{"command":1}', '{"command":"tick"',
+              "\xff\xfe", '{"nodes":"x","image":"y"}', "[[node]]\nnumber = 1\n", '{"at":0,"opens":1}', "x" * 5000,
+              '{"command":"lease 1 1","key":"k"}']
+METHODS = ["GET", "GET", "POST", "POST", "PUT", "DELETE", "HEAD", "OPTIONS", "PATCH", "TRACE", "CONNECT", "get", "G T", ""]
+HEADERS = ["Host: localhost", "Host: evil.example", "Host:", "Content-Type: application/json", "Content-Type: text/plain",
+           "Connection: close", "Expect: 100-continue", "Expect: x", "Transfer-Encoding: chunked", "Transfer-Encoding: x",
+           "Content-Length: -1", "Content-Length: 5", "Authorization: Bearer x", "Origin: null", "Sec-Fetch-Site: cross-site",
+           "X: " + "y" * 20000, "a b: c", ": x", "Upgrade: h2c"]
 
 
 def request_by_chance(chance):
@@ -260,7 +272,7 @@ def request_by_chance(chance):
         path = chance.choice(["/books/p0/call", "/books/p0/show/stripes", "/books/p0", "/books/b1", "/books/p0/log"])
     if chance.random() < 0.3:
         path += "?" + chance.choice(QUERIES)
-    method = chance.choice(["GET", "GET", "POST", "POST", "PUT", "DELETE", "HEAD", "OPTIONS", "PATCH", "TRACE", "CONNECT", "get", "G T", ""])
+    method = chance.choice(METHODS)
     if re.match(r"/(leader|snapshot|members)", path) and method not in ("GET", "HEAD"):
         path = "/books"  # (what changes the group is not asked for by chance)
     lines = [f"{method} {path} HTTP/1.{chance.choice('111110')}"]
@@ -294,7 +306,7 @@ class Fuzzer(threading.Thread):
             status = int(found[1]) if found else 0
             self.statuses[status] = self.statuses.get(status, 0) + 1
             if status == 500:
-                self.bad.append((text[:200], found.string[-200:]))
+                self.bad.append((text[:300], found.string[-200:]))
 
     def answer(self, text):
         try:
@@ -317,14 +329,7 @@ def test_fuzz(count, program, room, nodes, requests=20000, limit=25):
         with Caller(port) as caller:
             fuzzers = run_fuzzers(port, seed, requests, limit)
             told = caller.told
-        statuses = {}
-        for fuzzer in fuzzers:
-            for status, number in fuzzer.statuses.items():
-                statuses[status] = statuses.get(status, 0) + number
-        sent, bad = sum(it.sent for it in fuzzers), [it for fuzzer in fuzzers for it in fuzzer.bad]
-        print(f"{sent} requests by chance, seed {seed}: {dict(sorted(statuses.items()))}, {told} calls beside them", flush=True)
-        count.check(f"no fault: {bad[:3]} {alone.member.said()[-500:]}", not bad and alone.member.runs() and 500 not in statuses)
-        count.check(f"most of them come to something: {statuses}", sent >= 1000 and len(statuses) > 5)
+        check_answers(count, alone, fuzzers, f"requests by chance, seed {seed}, beside {told} calls")
         count.check(f"calls go on: {told}", told > 0)
         end = time.monotonic() + 30
         while alone.descriptors() > before + 5 and time.monotonic() < end:
@@ -332,17 +337,25 @@ def test_fuzz(count, program, room, nodes, requests=20000, limit=25):
         count.check(f"descriptors: {before}, and then {alone.descriptors()}", alone.descriptors() <= before + 5)
         grown = alone.status_file("VmRSS") - memory
         count.check(f"memory grew by {grown} kB", grown < 100_000)
-        status, _, text = alone.asker.ask(port, "POST", "/books/p0/call", TICK, JSON)
-        count.check(f"a call after all: {status} {text[:200]}", status == 200)
+        status, _, text = alone.asker.ask(port, "GET", "/books?now=1")
+        count.check(f"a look after all: {status} {text[:200]}", status == 200)
+
+
+def check_answers(count, alone, fuzzers, what):
+    """No request by chance was answered by a fault, and enough of them came to something."""
+    statuses, bad = {}, [it for fuzzer in fuzzers for it in fuzzer.bad]
+    for fuzzer in fuzzers:
+        for status, number in fuzzer.statuses.items():
+            statuses[status] = statuses.get(status, 0) + number
+    print(f"{sum(statuses.values())} {what}: {dict(sorted(statuses.items()))}", flush=True)
+    count.check(f"no fault: {bad[:3]} {alone.member.said()[-500:]}", not bad and alone.member.runs())
+    count.check(f"most of them come to something: {statuses}", sum(statuses.values()) >= 1000 and len(statuses) > 5)
 
 
 def run_fuzzers(port, seed, requests, limit, threads=8):
     end = time.monotonic() + limit
     fuzzers = [Fuzzer(port, f"{seed} {number}", requests // threads, end) for number in range(threads)]
-    for fuzzer in fuzzers:
-        fuzzer.start()
-    for fuzzer in fuzzers:
-        fuzzer.join(limit + 30)
+    run_all(fuzzers, limit + 30)
     return fuzzers
 
 
@@ -352,9 +365,9 @@ CHROME = "User-Agent: Mozilla/5.0 (X11; Linux x86_64) Chrome/120.0.0.0\r\nAccept
 
 
 def as_browser(port, method, path, host, headers=(), body=""):
-    """The status and the head of an answer to what a browser sends."""
-    lines = [f"{method} {path} HTTP/1.1", f"Host: {host}", *headers]
-    text = "\r\n".join(lines) + "\r\n" + CHROME + (f"Content-Length: {len(body)}\r\n" if body or method != "GET" else "") + "\r\n" + body
+    """The status, the headers and the text of an answer to what a browser sends."""
+    length = [f"Content-Length: {len(body)}"] if body or method != "GET" else []
+    text = "\r\n".join([f"{method} {path} HTTP/1.1", f"Host: {host}", *headers, *length]) + "\r\n" + CHROME + "\r\n" + body
     with socket.create_connection(("127.0.0.1", port), 20) as one:
         one.sendall(text.encode())
         answer = http.client.HTTPResponse(one, method=method)
@@ -364,43 +377,47 @@ def as_browser(port, method, path, host, headers=(), body=""):
 
 def fetched(site, mode, origin=None):
     """The headers by which a browser says for whom it asks."""
-    headers = [f"Sec-Fetch-Site: {site}", f"Sec-Fetch-Mode: {mode}", "Sec-Fetch-Dest: " + ("document" if mode == "navigate" else "empty")]
+    target = "document" if mode == "navigate" else "empty"
+    headers = [f"Sec-Fetch-Site: {site}", f"Sec-Fetch-Mode: {mode}", f"Sec-Fetch-Dest: {target}"]
     return headers + ([f"Origin: {origin}"] if origin else [])
+
+
+def of_elsewhere(port, topology):
+    """What browsers send for pages of elsewhere, and for a page whose own name was made to lead here."""
+    here, evil, rebound = f"127.0.0.1:{port}", "http://evil.example", f"rebind.evil.example:{port}"
+    own, cross = fetched("same-origin", "cors", f"http://{rebound}"), fetched("cross-site", "cors", evil)
+    kinds = "text/plain", "application/json", "application/x-www-form-urlencoded"
+    plain, ours, form = (f"Content-Type: {kind}" for kind in kinds)
+    return [
+        ("PUT", "/books/e1", rebound, own, topology), ("GET", "/books", rebound, fetched("same-origin", "cors"), ""),
+        ("GET", "/", rebound, fetched("none", "navigate"), ""), ("POST", "/books/p0/call", rebound, [*own, ours], TICK),
+        ("POST", "/snapshot", here, [*fetched("cross-site", "no-cors", evil), plain], "x"),
+        ("POST", "/snapshot", here, fetched("cross-site", "no-cors", evil), ""),
+        ("POST", "/leader/1", here, [*fetched("cross-site", "navigate", evil), form], "a=b"),
+        ("POST", "/leader/1", here, [*fetched("same-site", "navigate", "http://127.0.0.1:1"), plain], ""),
+        ("POST", "/books/p0/call", here, [f"Origin: {evil}", plain], TICK),  # (a browser that says nothing else)
+        ("POST", "/books/p0/call", here, ["Origin: null", ours], TICK), ("PUT", "/books/e1", here, cross, topology),
+        ("DELETE", "/books/p0", here, [*cross, ours], '{"at":0,"opens":1}'),
+        ("OPTIONS", "/books/e1", here, [*cross, "Access-Control-Request-Method: PUT"], ""),
+        ("GET", "/books/p0/image", here, fetched("cross-site", "no-cors"), ""), ("GET", "/events", here, cross, ""),
+    ]
 
 
 def test_browser(count, program, room, nodes):
     """A page whose name came to lead here, and pages of elsewhere, command nothing; the page itself can be visited."""
     with Alone(program, f"{room}/browser", nodes, "--host", "store.example") as alone:
-        port, topology = alone.member.client, harness.topology_of(nodes)
-        here, evil = f"127.0.0.1:{port}", "http://evil.example"
-        rebound = f"rebind.evil.example:{port}"
-        own = fetched("same-origin", "cors", f"http://{rebound}")
-        plain, ours = ["Content-Type: text/plain;charset=UTF-8"], ["Content-Type: application/json"]
-        for method, path, host, headers, body in (
-                ("PUT", "/books/e1", rebound, own, topology),
-                ("GET", "/books", rebound, fetched("same-origin", "cors"), ""),
-                ("GET", "/", rebound, fetched("none", "navigate"), ""),
-                ("POST", "/books/p0/call", rebound, own + ours, TICK),
-                ("POST", "/snapshot", here, fetched("cross-site", "no-cors", evil) + plain, "x"),
-                ("POST", "/snapshot", here, fetched("cross-site", "no-cors", evil), ""),
-                ("POST", "/leader/1", here, fetched("cross-site", "navigate", evil) + ["Content-Type: application/x-www-form-urlencoded"], "a=b"),
-                ("POST", "/leader/1", here, fetched("same-site", "navigate", "http://127.0.0.1:1") + plain, ""),
-                ("POST", "/books/p0/call", here, [f"Origin: {evil}", *plain], TICK),  # (a browser that does not say so otherwise)
-                ("POST", "/books/p0/call", here, ["Origin: null", *ours], TICK),
-                ("PUT", "/books/e1", here, fetched("cross-site", "cors", evil), topology),
-                ("DELETE", "/books/p0", here, fetched("cross-site", "cors", evil) + ours, '{"at":0,"opens":1}'),
-                ("OPTIONS", "/books/e1", here, fetched("cross-site", "cors", evil) + ["Access-Control-Request-Method: PUT"], ""),
-                ("GET", "/books/p0/image", here, fetched("cross-site", "no-cors"), ""),
-                ("GET", "/events", here, fetched("cross-site", "cors", evil), "")):
-            status, answer, text = as_browser(port, method, path, host, headers, body)
+        port = alone.member.client
+        here = f"127.0.0.1:{port}"
+        for request in of_elsewhere(port, harness.topology_of(nodes)):
+            status, answer, text = as_browser(port, *request)
             is_refused = status == 403 and json.loads(text)["code"] == "forbidden_origin"
-            count.check(f"{method} {path} for {host} {headers}: {status} {text}", is_refused)
-            count.check(f"{method} {path}: {answer}", not any(name.lower().startswith("access-control") for name in answer))
+            is_silent = not any(name.lower().startswith("access-control") for name in answer)
+            count.check(f"{request[:4]}: {status} {text} {answer}", is_refused and is_silent)
         for host, headers in ((here, fetched("cross-site", "navigate")), (f"store.example:{port}", fetched("none", "navigate"))):
             status, answer, _ = as_browser(port, "GET", "/", host, headers)
-            is_page = status == 200 and answer["X-Frame-Options"] == "DENY" and "frame-ancestors 'none'" in answer["Content-Security-Policy"]
-            count.check(f"the page for {host} {headers}: {status} {answer}", is_page)
-        status, answer, _ = as_browser(port, "OPTIONS", "/books/e1", here, ["Access-Control-Request-Method: PUT"])
+            is_kept = answer["X-Frame-Options"] == "DENY" and "frame-ancestors 'none'" in answer["Content-Security-Policy"]
+            count.check(f"the page for {host} {headers}: {status} {answer}", status == 200 and is_kept)
+        status = as_browser(port, "OPTIONS", "/books/e1", here, ["Access-Control-Request-Method: PUT"])[0]
         count.check(f"OPTIONS: {status}", status == 405)
         status, _, text = as_browser(port, "GET", "/books?now=1", here, fetched("same-origin", "cors"))
         names = [(it["name"], it["n"]) for it in json.loads(text)["books"]]
@@ -413,11 +430,13 @@ def test_browser(count, program, room, nodes):
 class Keys:
     """An authority of certificates in a folder, and what it has signed."""
 
+    NEW = ["-newkey", "ec", "-pkeyopt", "ec_paramgen_curve:P-256", "-nodes"]
+
     def __init__(self, room):
         self.folder = os.path.join(room, f"keys{time.monotonic_ns()}")
         os.makedirs(self.folder)
-        self.run("req", "-x509", "-newkey", "ec", "-pkeyopt", "ec_paramgen_curve:P-256", "-nodes", "-subj", "/CN=authority", "-days", "1",
-                 "-keyout", self.file("ca.key"), "-out", self.file("ca.pem"))
+        self.run("req", "-x509", *self.NEW, "-subj", "/CN=authority", "-days", "1", "-keyout", self.file("ca.key"), "-out",
+                 self.file("ca.pem"))
 
     def file(self, name):
         return os.path.join(self.folder, name)
@@ -431,9 +450,9 @@ class Keys:
         if not os.path.exists(certificate):
             with open(self.file("names"), "w", encoding="ascii") as file:
                 file.write("subjectAltName=IP:127.0.0.1\n")
-            self.run("req", "-newkey", "ec", "-pkeyopt", "ec_paramgen_curve:P-256", "-nodes", "-subj", f"/CN={name}", "-keyout", key, "-out", request)
-            self.run("x509", "-req", "-in", request, "-CA", self.file("ca.pem"), "-CAkey", self.file("ca.key"), "-CAcreateserial", "-days", "1",
-                     "-extfile", self.file("names"), "-out", certificate)
+            self.run("req", *self.NEW, "-subj", f"/CN={name}", "-keyout", key, "-out", request)
+            self.run("x509", "-req", "-in", request, "-CA", self.file("ca.pem"), "-CAkey", self.file("ca.key"), "-CAcreateserial",
+                     "-days", "1", "-extfile", self.file("names"), "-out", certificate)
         return certificate, key
 
     def words(self, name):
@@ -456,8 +475,9 @@ class Caretaker:
         self.headers = {**JSON, **({"Authorization": f"Bearer {token}"} if token else {})}
 
     def ask(self, method, path, value=None):
-        body = None if value is None else json.dumps(value) if isinstance(value, dict) else value
-        headers = self.headers if isinstance(value, dict) or value is None else {**self.headers, "Content-Type": "application/toml"}
+        is_text = isinstance(value, str)
+        body = value if is_text or value is None else json.dumps(value)
+        headers = {**self.headers, "Content-Type": "application/toml"} if is_text else self.headers
         try:
             self.connection.request(method, path, body, headers)
             answer = self.connection.getresponse()
@@ -496,29 +516,35 @@ def rights_cases(topology):
     ]
 
 
+WORDS_OF_TOKENS = [f"{name}-token-of-sixteen" for name in ("look", "work", "place", "operate")]
+
+
+def callers(port, keys):
+    """Those who ask: by their tokens, by their certificates, and two who have no rights."""
+    plain = keys.context("plain")
+    who = {name: Caretaker(port, plain, token) for name, token in zip(("look", "work", "place", "ops"), WORDS_OF_TOKENS)}
+    who |= {name: Caretaker(port, keys.context(name)) for name in ("boss", "gate")}
+    return who | {"plain": Caretaker(port, plain), "stranger": Caretaker(port, plain, "stranger-of-sixteen")}
+
+
 def test_rights(count, program, room, nodes):
-    """Each may do what its line says, and nothing else, over TLS; who has no line may do nothing; the log of operators has each deed."""
+    """Each may do what its line says, and nothing else, over TLS; the audit has each deed of an operator, and each refusal."""
     keys, watch, tokens, audit = Keys(room), free_port(), os.path.join(room, "tokens"), os.path.join(room, "audit")
-    words = ["look-token-of-sixteen", "work-token-of-sixteen", "place-token-of-sixteen", "operate-token-of-sixteen"]
     with open(tokens, "w", encoding="ascii") as file:
-        file.write(TOKENS.format(*words))
+        file.write(TOKENS.format(*WORDS_OF_TOKENS))
     os.chmod(tokens, 0o600)
     options = [*keys.words("server"), "--client-ca", keys.file("ca.pem"), "--token-file", tokens, "--audit-file", audit]
     member = Member(Group(program, f"{room}/rights", 0), 1, [*options, "--listen-metrics", f"127.0.0.1:{watch}"])
     try:
         member.start()
-        end = time.monotonic() + 30
-        while asked_once(watch) != 200 and time.monotonic() < end:
-            time.sleep(0.02)
-        plain = keys.context("plain")
-        who = {name: Caretaker(member.client, plain, token) for name, token in zip(("look", "work", "place", "ops"), words)}
-        who |= {"boss": Caretaker(member.client, keys.context("boss")), "gate": Caretaker(member.client, keys.context("gate"))}
-        who |= {"plain": Caretaker(member.client, plain), "stranger": Caretaker(member.client, plain, "stranger-of-sixteen")}
+        wait_well(watch)
+        who = callers(member.client, keys)
         for request, may in rights_cases(harness.topology_of(nodes)):
             for name, asker in who.items():
                 status, told = asker.ask(*request)
                 wanted = {200, 409} if name in may.split() else {401} if name in ("plain", "stranger") else {403}
-                count.check(f"{request[:2]} {str(request[2])[:60]} by {name}: {status} {told}, and not {wanted}", status in wanted)
+                words = f"{request[:2]} {str(request[2])[:60]} by {name}: {status} {told}, and not {wanted}"
+                count.check(words, status in wanted)
         books = [[it["name"] for it in who[name].ask("GET", "/books")[1]["books"]] for name in ("look", "gate", "ops")]
         count.check(f"books that are listed: {books}", books == [["p0"], ["p0", "p1"], ["p0", "p1", "q"]])
         status = Caretaker(member.client, keys.context()).ask("GET", "/health")[0]
@@ -536,7 +562,8 @@ def check_audit(count, audit):
     for words in ("name=boss address=", "name=ops address="):
         found = [line for line in lines if words in line and "method=PUT path=/books/p1 status=200" in line]
         count.check(f"the audit has {words}: {lines[-3:]}", len(found) == 1)
-    count.check("the audit has refusals", any(" status=401 " in line for line in lines) and any(" status=403 " in line for line in lines))
+    for status in (401, 403):
+        count.check(f"the audit has refusals by {status}", any(f" status={status} " in line for line in lines))
 
 
 def test_limits(count, program, room, nodes):

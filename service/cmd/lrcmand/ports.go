@@ -133,7 +133,7 @@ func (p *ports) reread(o *options, logger *logging.Logger) {
 	}
 }
 
-// hosts are the names by which browsers may call this member.
+// allHosts are the names by which browsers may call this member.
 func (o *options) allHosts(e engine.Engine) *httpapi.Hosts {
 	names := append([]string{o.listen, o.listenMetrics}, o.hosts...)
 	for _, member := range o.first {

@@ -51,6 +51,7 @@ type Config struct {
 type Knobs struct {
 	BodyTime  time.Duration // in which a body has to come
 	WriteTime time.Duration // in which an answer has to be taken
+	IdleTime  time.Duration // between two requests of a connection
 }
 
 // withDefaults fills in what the service does.
@@ -60,6 +61,9 @@ func (k Knobs) withDefaults() Knobs {
 	}
 	if k.WriteTime == 0 {
 		k.WriteTime = writeTime
+	}
+	if k.IdleTime == 0 {
+		k.IdleTime = idleTime
 	}
 	return k
 }
@@ -112,7 +116,7 @@ func (a *API) WatchServer() *http.Server {
 }
 
 func (a *API) server(of *Connections, answer http.HandlerFunc) *http.Server {
-	return &http.Server{Handler: answer, ReadHeaderTimeout: a.cfg.Knobs.BodyTime, IdleTimeout: idleTime, MaxHeaderBytes: mostHead,
+	return &http.Server{Handler: answer, ReadHeaderTimeout: a.cfg.Knobs.BodyTime, IdleTimeout: a.cfg.Knobs.IdleTime, MaxHeaderBytes: mostHead,
 		ErrorLog: log.New(a.faults, "", 0), ConnState: of.Note, ConnContext: func(ctx context.Context, c net.Conn) context.Context {
 			return context.WithValue(ctx, connKey{}, c)
 		}}

@@ -25,6 +25,7 @@ const (
 // has waited longest is closed for it.
 type Connections struct {
 	most     int
+	ofOne    int // that one address may have; the others are kept for others
 	mu       sync.Mutex
 	at       [stages]*list.List // of *conn, those first that came to the stage first
 	from     map[string]int     // how many there are of each address
@@ -41,12 +42,15 @@ type ConnectionCounts struct {
 	Refused   uint64 // were refused, since all others had requests that were being answered
 }
 
+// keptForOthers is the part of all connections that no single address gets: one in so many.
+const keptForOthers = 16
+
 // mostToldRefusals is how many connections are told at once that they are too many. Others are closed without a word.
 const mostToldRefusals = 64
 
 // NewConnections lets so many be open.
 func NewConnections(most int) *Connections {
-	s := &Connections{most: most, from: map[string]int{}, refusing: make(chan struct{}, mostToldRefusals)}
+	s := &Connections{most: most, ofOne: most - most/keptForOthers, from: map[string]int{}, refusing: make(chan struct{}, mostToldRefusals)}
 	for i := range s.at {
 		s.at[i] = list.New()
 	}
@@ -113,7 +117,7 @@ func (s *Connections) admit(c net.Conn) *conn {
 func (s *Connections) add(it *conn) (closed *conn, isIn bool) {
 	s.mu.Lock()
 	defer s.mu.Unlock()
-	if s.open() >= s.most {
+	if s.open() >= s.most || s.from[it.address] >= s.ofOne {
 		if closed = s.longest(it.address); closed == nil {
 			s.counts.Refused++
 			return nil, false

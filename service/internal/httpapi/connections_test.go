@@ -64,6 +64,7 @@ func TestWhatWaitsIsClosedForNewConnections(t *testing.T) {
 		{"idle", "", false, false},
 		{"half a head", "GET /health HTTP/1.1\r\nHost:", false, false},
 		{"half a body", "POST /books/p0/call HTTP/1.1\r\nHost: x\r\nContent-Type: application/json\r\nContent-Length: 100\r\n\r\n{", true, false},
+		{"between two requests", ask, false, true},
 		{"a body that nobody reads", "GET /health HTTP/1.1\r\nHost: x\r\nContent-Length: 100\r\n\r\n", false, true},
 	} {
 		s := limited(t, most, func(with *setup) { with.Knobs.BodyTime = time.Hour })
@@ -169,6 +170,15 @@ func TestAnAddressHasHalfOfThemWhereOthersWait(t *testing.T) {
 	if it := admit("10.0.0.3:1"); it == nil || isOpen(first) {
 		t.Error("one without any does not get the one that waits")
 	}
+	s = NewConnections(2 * keptForOthers)
+	for i := 0; i < 3*keptForOthers; i++ { // (of which some are refused)
+		if it := admit("10.0.0.1:1"); it != nil {
+			s.enter(it, answering)
+		}
+	}
+	if one, two, three := admit("10.0.0.2:1"), admit("10.0.0.3:1"), admit("10.0.0.1:1"); one == nil || two == nil || three != nil {
+		t.Error("one address has all of them")
+	}
 	if networkOf("[2001:db8::1:2:3:4]:5") != networkOf("[2001:db8::9]:6") || networkOf("[2001:db8:0:1::1]:5") == networkOf("[2001:db8::9]:6") {
 		t.Error("addresses of one IPv6 network count alone")
 	}
@@ -266,4 +276,34 @@ func TestThePortOfWatchersAnswersThemAlone(t *testing.T) {
 	s.refused("GET", "/books", "", 404, "nothing at this path", bearer(lookToken))
 	s.refused("POST", "/snapshot", "", 404, "nothing at this path")
 	s.refused("POST", "/health", "", 405, "this takes GET")
+}
+
+// What is no HTTP/1.1 is refused by package http itself, without an object, as the page says.
+func TestWhatIsNoRequestIsRefused(t *testing.T) {
+	s := newService(t, nil)
+	for text, status := range map[string]int{
+		"x\r\n\r\n":                    400,
+		"GET /health HTTP/1.1\r\n\r\n": 400, // (without Host)
+		"GET /health HTTP/1.1\r\nHost: x\r\nExpect: more\r\n\r\n":                           417,
+		"GET /health HTTP/1.1\r\nHost: x\r\nX: " + strings.Repeat("x", 40<<10) + "\r\n\r\n": 431,
+		"PUT /books/p1 HTTP/1.1\r\nHost: x\r\nTransfer-Encoding: gzip\r\n\r\n":              501,
+	} {
+		c := s.dialWith(text)
+		answer, err := http.ReadResponse(bufio.NewReader(c), nil)
+		if err != nil || answer.StatusCode != status || !answer.Close {
+			t.Errorf("%.60q: %v %v", text, answer, err)
+		}
+	}
+}
+
+func TestAnIdleConnectionIsClosed(t *testing.T) {
+	s := newService(t, func(with *setup) { with.Knobs.IdleTime = 100 * time.Millisecond })
+	if idle := New(Config{Engine: s.engine, State: s.state}).Server().IdleTimeout; idle != 15*time.Second {
+		t.Errorf("%v", idle)
+	}
+	c := s.dialWith("GET /health HTTP/1.1\r\nHost: x\r\n\r\n")
+	s.status(c, 200)
+	if !isClosed(c, 20*time.Second) {
+		t.Error("it stays open")
+	}
 }

@@ -175,6 +175,26 @@ func TestAWorkerHasTheNameOfItsToken(t *testing.T) {
 	}
 }
 
+// Two callers who happen to give one key are two.
+func TestAKeyBelongsToItsOwner(t *testing.T) {
+	s := newService(t, nil)
+	s.api.cfg.Rights = rightsOf(t, "work aaaaaaaaaaaaaaaa name=a\nwork bbbbbbbbbbbbbbbb name=b\noperate "+operateToken+"\n")
+	for _, command := range []string{"place 1", "fail 1", "fail 2"} {
+		s.ask("POST", "/books/p0/call", `{"command":"`+command+`"}`, bearer(operateToken))
+	}
+	next := func(token string) string {
+		answer, text := s.ask("POST", "/books/p0/call", `{"command":"next","key":"1"}`, bearer(token))
+		if answer.StatusCode != 200 || !strings.Contains(text, `"kind":"granted"`) {
+			t.Error(answer.StatusCode, text)
+		}
+		return text
+	}
+	first, second, again := next("aaaaaaaaaaaaaaaa"), next("bbbbbbbbbbbbbbbb"), next("aaaaaaaaaaaaaaaa")
+	if first == second || strings.Contains(second, `"again"`) || !strings.Contains(again, `"again":true`) {
+		t.Errorf("%s %s %s", first, second, again)
+	}
+}
+
 // shown is a request with a certificate that was verified.
 func shown(certificate *x509.Certificate, token string) *http.Request {
 	r := httptest.NewRequest("GET", "/", nil)
