@@ -11,6 +11,7 @@ import (
 	"reflect"
 	"strings"
 	"testing"
+	"time"
 
 	"lrcman/service/client"
 )
@@ -193,6 +194,30 @@ func TestAReportThatNobodyTellsOf(t *testing.T) {
 		}
 		if _, err := nodes.Read(8, 1, 3); (err == nil) != it.isKept {
 			t.Errorf("%s: what was written: %v", it.name, err)
+		}
+	}
+}
+
+// Also where its client gives up, a command goes on by its key.
+func TestACommandGoesOnByItsKey(t *testing.T) {
+	fake := &fakeBook{replies: map[string][]string{"next": {`{"reply":"idle","kind":"idle"}`}}}
+	for try := 0; try < 60; try++ {
+		fake.faults = append(fake.faults, "504 outcome_unknown")
+	}
+	server := httptest.NewServer(fake)
+	defer server.Close()
+	asked, err := client.New(client.Config{Servers: []string{server.URL}, Timeout: 20 * time.Millisecond, Pause: 5 * time.Millisecond})
+	if err != nil {
+		t.Fatal(err)
+	}
+	reply, err := (&Book{asked, "p0"}).Call("w", client.Next())
+	if err != nil || reply.Kind != client.Idle || len(fake.keys) != 61 {
+		t.Errorf("%+v %v, %d tries", reply, err, len(fake.keys))
+	}
+	for _, key := range fake.keys {
+		if key != fake.keys[0] {
+			t.Errorf("keys %q", fake.keys)
+			break
 		}
 	}
 }

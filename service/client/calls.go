@@ -14,13 +14,14 @@ type Position struct{ N, Opens uint64 }
 type Option func(*options)
 
 type options struct {
-	key     string
-	since   uint64
-	session int
-	worker  string
-	at      *Position
-	isNow   bool
-	isStale bool
+	key      string
+	since    uint64
+	session  int
+	worker   string
+	at       *Position
+	isNow    bool
+	isStale  bool
+	isForced bool
 }
 
 // WithKey gives a request a key of the caller's own. If it was sent before, since is that of its first try, as an OutcomeUnknown
@@ -40,6 +41,9 @@ func WithPosition(at Position) Option { return func(o *options) { o.at = &at } }
 
 // WithNow makes a look that has all that was told before it was asked for.
 func WithNow() Option { return func(o *options) { o.isNow = true } }
+
+// WithForce changes members also where too few of those after the change are heard of.
+func WithForce() Option { return func(o *options) { o.isForced = true } }
 
 // WithStale makes a backup of what the member that answers has.
 func WithStale() Option { return func(o *options) { o.isStale = true } }

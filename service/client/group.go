@@ -88,7 +88,7 @@ func (c *Client) find() {
 }
 
 // AddMember adds a member, or makes one vote that only learned. To do so again changes nothing.
-func (c *Client) AddMember(ctx context.Context, member Member) ([]Member, error) {
+func (c *Client) AddMember(ctx context.Context, member Member, given ...Option) ([]Member, error) {
 	fields := map[string]interface{}{"peer": member.Peer, "client": member.Client}
 	if member.Learner {
 		fields["learner"] = true
@@ -97,22 +97,25 @@ func (c *Client) AddMember(ctx context.Context, member Member) ([]Member, error)
 	if err != nil {
 		return nil, err
 	}
-	return c.changeMembers(ctx, "PUT", fmt.Sprintf("/members/%d", member.ID), body)
+	return c.changeMembers(ctx, "PUT", fmt.Sprintf("/members/%d", member.ID), body, given)
 }
 
 // RemoveMember removes a member. To do so again changes nothing.
-func (c *Client) RemoveMember(ctx context.Context, id uint64) ([]Member, error) {
-	return c.changeMembers(ctx, "DELETE", fmt.Sprintf("/members/%d", id), nil)
+func (c *Client) RemoveMember(ctx context.Context, id uint64, given ...Option) ([]Member, error) {
+	return c.changeMembers(ctx, "DELETE", fmt.Sprintf("/members/%d", id), nil, given)
 }
 
 // Lead makes a member the leader, and returns once it leads.
 func (c *Client) Lead(ctx context.Context, id uint64) ([]Member, error) {
-	return c.changeMembers(ctx, "POST", fmt.Sprintf("/leader/%d", id), nil)
+	return c.changeMembers(ctx, "POST", fmt.Sprintf("/leader/%d", id), nil, nil)
 }
 
-func (c *Client) changeMembers(ctx context.Context, method, path string, body []byte) ([]Member, error) {
+func (c *Client) changeMembers(ctx context.Context, method, path string, body []byte, given []Option) ([]Member, error) {
 	var list memberList
 	q := &query{method: method, path: path, body: body, bodyType: ofJSON, isChange: true}
+	if optionsOf(given).isForced {
+		q.values = url.Values{"force": {"1"}}
+	}
 	_, err := c.askFor(ctx, q, &list)
 	return list.Members, err
 }
@@ -160,9 +163,9 @@ func (c *Client) Health(ctx context.Context) error {
 	return nil
 }
 
-// Backup is all that the group has at one place of its log, to be kept in a file for `lrcmand restore`. All that was told before is
-// in it; with WithStale it is what the member that answers has, which may have lost its majority. A reader that ends with an error
-// has given a part of it alone. It has to be closed.
+// Backup is all that the group has at one place of its log, to be kept in a file for `lrcmand restore`. All that was told before
+// is in it; with WithStale it is what the member that answers has, which may have lost its majority. A reader that ends with an
+// error has given a part of it alone. It has to be closed.
 func (c *Client) Backup(ctx context.Context, given ...Option) (io.ReadCloser, error) {
 	values := url.Values{}
 	if optionsOf(given).isStale {

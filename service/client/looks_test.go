@@ -181,6 +181,8 @@ func TestEachChangeIsAskedFor(t *testing.T) {
 		},
 			"PUT /members/4", `application/json {"client":"h4:1","learner":true,"peer":"h4:2"}`},
 		{func() error { _, err := c.RemoveMember(background, 4); return err }, "DELETE /members/4", "application/json "},
+		{func() error { _, err := c.RemoveMember(background, 4, WithForce()); return err }, "DELETE /members/4?force=1",
+			"application/json "},
 		{func() error { _, err := c.Lead(background, 1); return err }, "POST /leader/1", "application/json "},
 		{func() error { return c.Snapshot(background) }, "POST /snapshot", "application/json "},
 	} {

@@ -271,14 +271,16 @@ class Client:
         body = {"rules": rules, **({"form": form} if form else {})}
         return self._change(_Query("PUT", "/rules", body=json.dumps(body).encode(), kind=JSON), key, since)
 
-    def add_member(self, number: int, peer: str, client: str, learner: bool = False) -> list[dict[str, Any]]:
-        """Adds a member, or makes one vote that only learned. To do so again changes nothing."""
+    def add_member(self, number: int, peer: str, client: str, learner: bool = False,
+                   force: bool = False) -> list[dict[str, Any]]:
+        """Adds a member, or makes one vote that only learned; with `force` also where too few are heard of. To do so again changes
+        nothing."""
         body = {"peer": peer, "client": client, **({"learner": True} if learner else {})}
-        return self._change_members("PUT", f"/members/{number}", json.dumps(body).encode())
+        return self._change_members("PUT", f"/members/{number}", json.dumps(body).encode(), force)
 
-    def remove_member(self, number: int) -> list[dict[str, Any]]:
-        """Removes a member. To do so again changes nothing."""
-        return self._change_members("DELETE", f"/members/{number}")
+    def remove_member(self, number: int, force: bool = False) -> list[dict[str, Any]]:
+        """Removes a member; with `force` also where too few are heard of. To do so again changes nothing."""
+        return self._change_members("DELETE", f"/members/{number}", force=force)
 
     def lead(self, number: int) -> list[dict[str, Any]]:
         """Makes a member the leader, and returns once it leads."""
@@ -411,8 +413,9 @@ class Client:
         query.keyed = _Keyed(key or secrets.token_hex(16), since_now, bool(since))
         return self._changed(query)
 
-    def _change_members(self, method: str, path: str, body: bytes | None = None) -> list[dict[str, Any]]:
-        return self._changed(_Query(method, path, body=body, kind=JSON, is_change=True))["members"]
+    def _change_members(self, method: str, path: str, body: bytes | None = None, force: bool = False) -> list[dict[str, Any]]:
+        values = [("force", 1)] if force else []
+        return self._changed(_Query(method, path, values, body, JSON, is_change=True))["members"]
 
     def _changed(self, query: _Query) -> dict[str, Any]:
         answer = self._ask(query)

@@ -293,6 +293,21 @@ def kill_leader(count, clients):
     group.start(group.members[number])
 
 
+def change_members(count, group):
+    """One who is asked and does not lead names the leader, which is asked then; each change may be asked for again."""
+    number = next(it for it in group.members if it != group.leader())
+    client, peer = Client([f"127.0.0.1:{group.members[number].client}"]), "127.0.0.1:9"
+    for rows in (client.add_member(9, peer, peer, learner=True), client.add_member(9, peer, peer, learner=True)):
+        count.check(f"a member is added: {rows}", [it["id"] for it in rows] == [1, 2, 3, 9])
+    for rows in (client.remove_member(9), client.remove_member(9)):
+        count.check(f"a member is removed: {rows}", [it["id"] for it in rows] == [1, 2, 3])
+    client.sync()
+    servers = {f"http://127.0.0.1:{it.client}" for it in group.members.values()}
+    count.check(f"the others are found: {client._order()}", set(client._order()) == servers)
+    led = ([it["id"] for it in client.lead(number) if it["leader"]] for _ in range(5))  # (on a busy machine it may lose it again)
+    count.check(f"member {number} leads", [number] in led)
+
+
 def break_answers(clients, network):
     """Answers break off, until a call is told by a later try than the one that made it."""
     end = time.monotonic() + 20
@@ -312,6 +327,7 @@ def test_clients(count, program, caller, room, nodes):
         cut_off(count, clients, network)
         kill_leader(count, clients)
         break_answers(clients, network)
+        change_members(count, group)
         clients.end()
         log, fault = clients.follower.entries, clients.follower.fault
         if count.check(f"the log is followed to its end: {fault}", fault is None and not clients.follower.is_alive()):
