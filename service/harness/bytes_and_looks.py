@@ -112,7 +112,7 @@ def slowest(port, book, prefix):
     return sorted(took)[CALLS * 99 // 100 - 1]
 
 
-def test_looks(count, program, room, nodes):
+def test_calls_beside_looks(count, program, room, nodes):
     """Calls of a book, and of another one, beside clients that look at the first without a pause."""
     with Group(program, f"{room}/looks", 3, ["--tick", "0", "--election", "3s"]) as group:
         make_books(group, harness.topology_of(nodes))
