@@ -280,7 +280,7 @@ func (o *options) compareTime() time.Duration { return time.Duration(o.compare) 
 func (o *options) config(logger *logging.Logger) raftlog.Config {
 	cfg := raftlog.Config{Dir: o.data, Name: o.group, New: o.isNew, Self: o.self, Members: o.first, Listen: o.peer,
 		PeerNames: o.peerNames, Patience: patience, Election: o.election, SnapshotEvery: o.snapshotEvery,
-		SnapshotBytes: o.snapshotBytes, Trailing: o.trailing, Log: logger.Std(logging.Info), Fatal: func(err error) { logger.Fatal("member ends", "error", err) }}
+		SnapshotBytes: o.snapshotBytes, Trailing: o.trailing, Log: logger, Fatal: func(err error) { logger.Fatal("member ends", "error", err) }}
 	if o.peerCA != "" {
 		cfg.TLS = transport.TLSInfo{CertFile: o.peerCert, KeyFile: o.peerKey, TrustedCAFile: o.peerCA, ClientCertAuth: true}
 	}

@@ -61,7 +61,7 @@ func (o *options) open(logger *logging.Logger) (p *ports, err error) {
 // serveEarly answers at both ports while the member starts.
 func (p *ports) serveEarly(g *gate) []*http.Server {
 	early := func(of *httpapi.Connections) *http.Server {
-		return &http.Server{Handler: g.before(nil), ReadTimeout: startTime, ConnState: of.Note, ErrorLog: p.log.Std(logging.Debug)}
+		return &http.Server{Handler: g.before(nil), ReadTimeout: startTime, ConnState: of.Note, ErrorLog: p.log.Std(logging.Debug, "the port for clients")}
 	}
 	servers := []*http.Server{early(p.connections)}
 	go serve(servers[0], p.clients.turn(), p.tls(), p.log)

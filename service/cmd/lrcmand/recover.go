@@ -5,7 +5,6 @@ import (
 	"flag"
 	"fmt"
 	"io"
-	"log"
 	"os"
 	"strings"
 
@@ -13,6 +12,7 @@ import (
 	"lrcman/service/internal/engine"
 	"lrcman/service/internal/engine/raftlog"
 	"lrcman/service/internal/httpapi"
+	"lrcman/service/internal/logging"
 	"lrcman/service/internal/state"
 )
 
@@ -48,7 +48,7 @@ func runRepair(words []string, out, says io.Writer) int {
 	}
 	knobs := readKnobs()
 	cfg := raftlog.Config{Dir: r.data, Self: engine.Member{ID: r.id, Peer: r.peer, Client: r.listen}, Knobs: knobs.raftlog,
-		Log: log.New(says, "lrcmand: ", log.Lmsgprefix)}
+		Log: logging.New(says, logging.Config{})}
 	made, err := r.make(r, cfg, state.NewWith(knobs.state))
 	if err != nil {
 		fmt.Fprintf(says, "lrcmand %s: %v\n", words[0], err)

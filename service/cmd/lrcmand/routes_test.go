@@ -3,8 +3,6 @@ package main
 import (
 	"context"
 	"fmt"
-	"io"
-	"log"
 	"net/http/httptest"
 	"os"
 	"reflect"
@@ -16,6 +14,7 @@ import (
 
 	"lrcman/service/internal/book"
 	"lrcman/service/internal/httpapi"
+	"lrcman/service/internal/logging"
 	"lrcman/service/internal/metrics"
 	"lrcman/service/internal/replica"
 	"lrcman/service/internal/state"
@@ -43,7 +42,7 @@ func newAPI(t *testing.T) (*httpapi.API, *monitoring) {
 	books := state.New()
 	e := testengine.New(books)
 	ctx, stop := context.WithCancel(context.Background())
-	r := replica.New(replica.Config{Engine: e, State: books, Timeout: time.Second, Log: log.New(io.Discard, "", 0)})
+	r := replica.New(replica.Config{Engine: e, State: books, Timeout: time.Second, Log: logging.Nowhere()})
 	go r.Run(ctx)
 	monitoring := newMonitoring(e, books, metrics.Sources{})
 	t.Cleanup(func() { stop(); monitoring.stop() })

@@ -94,13 +94,13 @@ func newService(o *options, logger *logging.Logger, node engine.Engine, books *s
 	s := &service{options: o, log: logger, engine: node, ports: ports}
 	s.disk = disk.New(disk.Config{Folder: o.data, Reserve: o.diskReserve, Changed: s.diskChanged})
 	r := replica.New(replica.Config{Engine: node, State: books, Timeout: o.timeout, Election: o.election, Tick: o.tickTime(),
-		Compare: o.compareTime(), Log: logger.Std(logging.Info), MayChange: s.disk.MayChange, Knobs: knobs})
+		Compare: o.compareTime(), Log: logger, MayChange: s.disk.MayChange, Knobs: knobs})
 	s.monitoring = newMonitoring(node, books, s.sources(r))
 	s.monitoring.metrics.ConnectionsOf(ports.connections.Counts)
 	s.api = httpapi.New(httpapi.Config{Engine: node, State: books, Replica: r, Rights: o.rights, Hosts: o.allHosts(node), Rates: o.rates(),
 		Timeout: o.timeout, Mounts: s.monitoring.mounts(), Observe: s.monitoring.metrics.Observe, Audit: ports.auditTo(o),
 		Checks: s.checks(books), Build: httpapi.Build{Version: version, Commit: commit}, Connections: ports.connections,
-		Watchers: ports.watchers, Log: logger.Std(logging.Error)})
+		Watchers: ports.watchers, Log: logger})
 	s.gate, s.server, s.watch = &gate{}, s.api.Server(), s.api.WatchServer()
 	s.server.Handler, s.watch.Handler = s.gate.before(s.server.Handler), s.gate.before(s.watch.Handler)
 	ctx, stop := context.WithCancel(context.Background())

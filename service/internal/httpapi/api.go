@@ -5,8 +5,6 @@ package httpapi
 import (
 	"context"
 	"encoding/json"
-	"io"
-	"log"
 	"net"
 	"net/http"
 	"net/url"
@@ -16,6 +14,7 @@ import (
 	"time"
 
 	"lrcman/service/internal/engine"
+	"lrcman/service/internal/logging"
 	"lrcman/service/internal/replica"
 	"lrcman/service/internal/state"
 )
@@ -40,10 +39,10 @@ type Config struct {
 	Mounts                []Mount       // what other packages answer
 	Checks                []Check       // of whether this member is ready, beside those of the log
 	Build                 Build
-	Observe               func(Served) // is told of each request; nil: nobody is
-	Connections, Watchers *Connections // at the port for clients, and at that for health and metrics; nil: nobody counts them
-	Audit                 func(string) // is told what was asked for as an operator, and what was refused for lack of rights; nil: nobody is
-	Log                   *log.Logger  // is told of faults; nil: nobody is
+	Observe               func(Served)    // is told of each request; nil: nobody is
+	Connections, Watchers *Connections    // at the port for clients, and at that for health and metrics; nil: nobody counts them
+	Audit                 func(string)    // is told what was asked for as an operator, and what was refused for lack of rights; nil: nobody is
+	Log                   *logging.Logger // is told of faults; nil: nobody is
 	Knobs                 Knobs
 }
 
@@ -75,7 +74,6 @@ type API struct {
 	refused *tally
 	stop    chan struct{}
 	bodies  *room
-	faults  *sparing // the log of faults
 	audit   *audit
 }
 
@@ -83,7 +81,7 @@ type API struct {
 func New(cfg Config) *API {
 	cfg.Knobs = cfg.Knobs.withDefaults()
 	if cfg.Log == nil {
-		cfg.Log = log.New(io.Discard, "", 0)
+		cfg.Log = logging.Nowhere()
 	}
 	if cfg.Connections == nil {
 		cfg.Connections = NewConnections(MostConnections)
@@ -91,8 +89,7 @@ func New(cfg Config) *API {
 	if cfg.Watchers == nil {
 		cfg.Watchers = NewConnections(MostConnections)
 	}
-	a := &API{cfg: cfg, refused: &tally{}, stop: make(chan struct{}), bodies: &room{}, audit: newAudit(cfg.Audit),
-		faults: newSparing(mostFaults, func(words string) { cfg.Log.Print(words) })}
+	a := &API{cfg: cfg, refused: &tally{}, stop: make(chan struct{}), bodies: &room{}, audit: newAudit(cfg.Audit)}
 	a.routes = a.table()
 	for _, mount := range cfg.Mounts {
 		a.routes = append(a.routes, mount.route())
@@ -117,7 +114,7 @@ func (a *API) WatchServer() *http.Server {
 
 func (a *API) server(of *Connections, answer http.HandlerFunc) *http.Server {
 	return &http.Server{Handler: answer, ReadHeaderTimeout: a.cfg.Knobs.BodyTime, IdleTimeout: a.cfg.Knobs.IdleTime, MaxHeaderBytes: mostHead,
-		ErrorLog: log.New(a.faults, "", 0), ConnState: of.Note, ConnContext: func(ctx context.Context, c net.Conn) context.Context {
+		ErrorLog: a.cfg.Log.Std(logging.Warn, "the port for clients"), ConnState: of.Note, ConnContext: func(ctx context.Context, c net.Conn) context.Context {
 			return context.WithValue(ctx, connKey{}, c)
 		}}
 }

@@ -8,7 +8,6 @@ import (
 	"errors"
 	"fmt"
 	"io"
-	"log"
 	"net"
 	"net/http"
 	"net/http/httptest"
@@ -20,6 +19,7 @@ import (
 
 	"lrcman/service/internal/book"
 	"lrcman/service/internal/engine"
+	"lrcman/service/internal/logging"
 	"lrcman/service/internal/openapi"
 	"lrcman/service/internal/replica"
 	"lrcman/service/internal/state"
@@ -54,7 +54,7 @@ func newService(t *testing.T, change func(*setup)) *service {
 	t.Helper()
 	books := state.New()
 	e := testengine.New(books)
-	with := &setup{e, replica.Config{Engine: e, State: books, Timeout: 2 * time.Second, Log: log.New(io.Discard, "", 0)},
+	with := &setup{e, replica.Config{Engine: e, State: books, Timeout: 2 * time.Second, Log: logging.Nowhere()},
 		Config{Engine: e, State: books, Timeout: 2 * time.Second}}
 	if change != nil {
 		change(with)

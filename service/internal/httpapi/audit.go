@@ -4,16 +4,12 @@ import (
 	"fmt"
 	"net/http"
 	"strconv"
-	"strings"
 	"sync/atomic"
 	"time"
 )
 
-// Lines a second that a log gets at most.
-const (
-	mostFaults   = 5
-	mostRefusals = 10
-)
+// mostRefusals is how many lines of refusals a second an audit gets at most.
+const mostRefusals = 10
 
 // A sparing log gets so many lines a second, and tells how many it left out.
 type sparing struct {
@@ -35,12 +31,6 @@ func (s *sparing) print(words string) {
 		words += fmt.Sprintf(" left_out=%d", left)
 	}
 	s.write(words)
-}
-
-// Write takes a line of the HTTP server.
-func (s *sparing) Write(line []byte) (int, error) {
-	s.print(strings.TrimSpace(string(line)))
-	return len(line), nil
 }
 
 // An audit is told of each request that takes the right to operate, and of those that were refused for lack of rights; of the last

@@ -2,7 +2,6 @@ package httpapi
 
 import (
 	"io"
-	"log"
 	"net/http"
 	"net/http/httptest"
 	"reflect"
@@ -11,6 +10,8 @@ import (
 	"sync"
 	"testing"
 	"time"
+
+	"lrcman/service/internal/logging"
 )
 
 // lines keep what is written to a log.
@@ -117,7 +118,7 @@ func TestRefusalsDoNotFillALog(t *testing.T) {
 func TestAFaultIsToldOnceAndAnswered(t *testing.T) {
 	said, found := &lines{}, []Served{}
 	s := newService(t, func(with *setup) {
-		with.Log = log.New(said, "", 0)
+		with.Log = logging.New(said, logging.Config{})
 		with.Observe = func(it Served) {
 			it.Took = 0
 			found = append(found, it)
@@ -134,7 +135,7 @@ func TestAFaultIsToldOnceAndAnswered(t *testing.T) {
 	if fail.Status != 500 || fail.Code != "fault" || !answer.Close {
 		t.Errorf("%+v", fail)
 	}
-	if all := said.take(); len(all) != 1 || !strings.HasPrefix(all[0], "a fault at /panic: this can't be\n") || !strings.Contains(all[0], "audit_test.go") {
+	if all := said.take(); len(all) != 1 || !strings.Contains(all[0], ` error a request met a fault route=/panic fault="this can't be" stack=`) || !strings.Contains(all[0], "audit_test.go") {
 		t.Errorf("%q", all)
 	}
 	if answer, err := http.Get(s.url + "/late"); err != nil {
@@ -142,7 +143,7 @@ func TestAFaultIsToldOnceAndAnswered(t *testing.T) {
 	} else if text, err := io.ReadAll(answer.Body); err == nil {
 		t.Errorf("what was broken off looks whole: %q", text)
 	}
-	if all := said.take(); len(all) != 1 || !strings.HasPrefix(all[0], "a fault at /late: later on\n") {
+	if all := said.take(); len(all) != 1 || !strings.Contains(all[0], `a request met a fault route=/late fault="later on"`) {
 		t.Errorf("%q", all)
 	}
 	s.ask("GET", "/nothing", "")
@@ -153,18 +154,18 @@ func TestAFaultIsToldOnceAndAnswered(t *testing.T) {
 	for i := 0; i < 20; i++ {
 		s.ask("GET", "/panic", "")
 	}
-	if all := said.take(); len(all) > mostFaults {
+	if all := said.take(); len(all) > 10 {
 		t.Errorf("%d lines", len(all))
 	}
 }
 
 func TestTheServerTellsItsFaults(t *testing.T) {
 	said := &lines{}
-	s := newService(t, func(with *setup) { with.Log = log.New(said, "", 0) })
+	s := newService(t, func(with *setup) { with.Log = logging.New(said, logging.Config{}) })
 	for i := 0; i < 20; i++ {
 		s.api.Server().ErrorLog.Printf("http: TLS handshake error from x: EOF")
 	}
-	if all := said.take(); len(all) == 0 || len(all) > 2*mostFaults || all[0] != "http: TLS handshake error from x: EOF\n" {
+	if all := said.take(); len(all) == 0 || len(all) > 10 || !strings.HasSuffix(all[0], " warn the port for clients: http: TLS handshake error from x: EOF\n") {
 		t.Errorf("%q", all)
 	}
 }

@@ -2,7 +2,6 @@ package httpapi
 
 import (
 	"errors"
-	"fmt"
 	"net/http"
 	"runtime/debug"
 	"time"
@@ -91,7 +90,7 @@ func (a *API) noteFault(answer *noted, to target, fault interface{}) {
 		answer.status = http.StatusInternalServerError
 		return
 	}
-	a.faults.print(fmt.Sprintf("a fault at %s: %v\n%s", to.label, fault, debug.Stack()))
+	a.cfg.Log.Error("a request met a fault", "route", to.label, "fault", fault, "stack", string(debug.Stack()))
 	answer.hasBegun = answer.status != 0
 	if !answer.hasBegun {
 		answer.Header().Set("Connection", "close")

@@ -9,18 +9,21 @@ import (
 	"go.uber.org/zap/zapcore"
 )
 
-// Std is a logger of the standard library whose lines come out at a level, as what HTTP servers write to.
-func (l *Logger) Std(level Level) *log.Logger { return log.New(lines{l, level}, "", 0) }
+// Std is a logger of the standard library whose lines come out at a level, behind a word of where they come from, as an HTTP server's.
+// They are counted as one message: whoever reaches a port can cause as many as it likes.
+func (l *Logger) Std(level Level, where string) *log.Logger {
+	return log.New(lines{l, level, where}, "", 0)
+}
 
 // lines takes what a standard logger writes, a line each.
 type lines struct {
 	*Logger
 	level Level
+	where string
 }
 
 func (l lines) Write(text []byte) (int, error) {
-	line := strings.TrimRight(string(text), "\n")
-	l.Logger.write(l.level, line, line, nil)
+	l.Logger.write(l.level, l.where, l.where+": "+strings.TrimRight(string(text), "\n"), nil)
 	return len(text), nil
 }
 
@@ -78,22 +81,16 @@ func (l *Logger) Raft() *Raft { return &Raft{l} }
 // A Raft takes lines of raft. A panic stays one: raft's state is wrong then.
 type Raft struct{ to *Logger }
 
-func (r *Raft) write(level Level, form string, values []interface{}) {
-	if level >= r.to.sink.cfg.Level {
-		r.to.write(level, form, fmt.Sprintf(form, values...), nil)
-	}
-}
-
 // Debug and what follows are the methods of raft.Logger.
-func (r *Raft) Debug(v ...interface{})                 { r.write(Debug, "%s", []interface{}{fmt.Sprint(v...)}) }
-func (r *Raft) Debugf(form string, v ...interface{})   { r.write(Debug, form, v) }
-func (r *Raft) Info(v ...interface{})                  { r.write(Debug, "%s", []interface{}{fmt.Sprint(v...)}) }
-func (r *Raft) Infof(form string, v ...interface{})    { r.write(Debug, form, v) }
-func (r *Raft) Warning(v ...interface{})               { r.write(Warn, "%s", []interface{}{fmt.Sprint(v...)}) }
-func (r *Raft) Warningf(form string, v ...interface{}) { r.write(Warn, form, v) }
-func (r *Raft) Error(v ...interface{})                 { r.write(Error, "%s", []interface{}{fmt.Sprint(v...)}) }
-func (r *Raft) Errorf(form string, v ...interface{})   { r.write(Error, form, v) }
+func (r *Raft) Debug(v ...interface{})                 { r.to.Debugf("%s", fmt.Sprint(v...)) }
+func (r *Raft) Debugf(form string, v ...interface{})   { r.to.Debugf(form, v...) }
+func (r *Raft) Info(v ...interface{})                  { r.to.Debugf("%s", fmt.Sprint(v...)) }
+func (r *Raft) Infof(form string, v ...interface{})    { r.to.Debugf(form, v...) }
+func (r *Raft) Warning(v ...interface{})               { r.to.Warnf("%s", fmt.Sprint(v...)) }
+func (r *Raft) Warningf(form string, v ...interface{}) { r.to.Warnf(form, v...) }
+func (r *Raft) Error(v ...interface{})                 { r.to.Errorf("%s", fmt.Sprint(v...)) }
+func (r *Raft) Errorf(form string, v ...interface{})   { r.to.Errorf(form, v...) }
 func (r *Raft) Fatal(v ...interface{})                 { r.to.Fatal(fmt.Sprint(v...)) }
 func (r *Raft) Fatalf(form string, v ...interface{})   { r.to.Fatal(fmt.Sprintf(form, v...)) }
-func (r *Raft) Panic(v ...interface{})                 { r.to.Std(Error).Panic(v...) }
-func (r *Raft) Panicf(form string, v ...interface{})   { r.to.Std(Error).Panicf(form, v...) }
+func (r *Raft) Panic(v ...interface{})                 { r.to.Std(Error, "raft").Panic(v...) }
+func (r *Raft) Panicf(form string, v ...interface{})   { r.to.Std(Error, "raft").Panicf(form, v...) }

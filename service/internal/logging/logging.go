@@ -16,9 +16,9 @@ import (
 // A Level tells how much a line matters.
 type Level int
 
-// The levels.
+// The levels. One that is not set is Info.
 const (
-	Debug Level = iota
+	Debug Level = iota - 1
 	Info
 	Warn
 	Error
@@ -27,13 +27,13 @@ const (
 var levels = []string{"debug", "info", "warn", "error"}
 
 // String is the word of a level.
-func (l Level) String() string { return levels[l] }
+func (l Level) String() string { return levels[l-Debug] }
 
 // ParseLevel reads the word of a level.
 func ParseLevel(word string) (Level, error) {
 	for i, level := range levels {
 		if word == level {
-			return Level(i), nil
+			return Debug + Level(i), nil
 		}
 	}
 	return 0, fmt.Errorf("is %s, and not %q", strings.Join(levels, ", "), word)
@@ -89,6 +89,13 @@ func New(to io.Writer, cfg Config) *Logger {
 // Nowhere is a logger whose lines nobody reads.
 func Nowhere() *Logger { return New(io.Discard, Config{Level: Error}) }
 
+// SetOutput makes it, and those that were made of it, write elsewhere from now on.
+func (l *Logger) SetOutput(to io.Writer) {
+	l.sink.mu.Lock()
+	defer l.sink.mu.Unlock()
+	l.sink.to = to
+}
+
 // With is a logger whose lines have these fields too: a name and a value, and so on.
 func (l *Logger) With(fields ...interface{}) *Logger {
 	return &Logger{l.sink, append(append([]interface{}{}, l.fields...), fields...)}
@@ -110,9 +117,25 @@ func (l *Logger) Error(message string, fields ...interface{}) {
 	l.write(Error, message, message, fields)
 }
 
-// Printf writes a line at level info. Lines of one form are counted as one message.
-func (l *Logger) Printf(form string, values ...interface{}) {
-	l.write(Info, form, fmt.Sprintf(form, values...), nil)
+// Printf writes a line at level info. It and what follows count lines of one form as one message.
+func (l *Logger) Printf(form string, values ...interface{}) { l.writef(Info, form, values) }
+
+// Debugf writes a line at level debug.
+func (l *Logger) Debugf(form string, values ...interface{}) { l.writef(Debug, form, values) }
+
+// Infof writes a line at level info.
+func (l *Logger) Infof(form string, values ...interface{}) { l.writef(Info, form, values) }
+
+// Warnf writes a line at level warn.
+func (l *Logger) Warnf(form string, values ...interface{}) { l.writef(Warn, form, values) }
+
+// Errorf writes a line at level error.
+func (l *Logger) Errorf(form string, values ...interface{}) { l.writef(Error, form, values) }
+
+func (l *Logger) writef(level Level, form string, values []interface{}) {
+	if level >= l.sink.cfg.Level {
+		l.write(level, form, fmt.Sprintf(form, values...), nil)
+	}
 }
 
 // Fatal writes a line, and ends the process.

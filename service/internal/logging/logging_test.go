@@ -3,6 +3,7 @@ package logging
 import (
 	"encoding/json"
 	"errors"
+	"fmt"
 	"strings"
 	"testing"
 	"time"
@@ -78,11 +79,15 @@ func TestPartsOfOthersWriteThroughIt(t *testing.T) {
 	zapped.Warn("it is slow", zap.Duration("took", time.Second), zap.Error(errors.New("no")))
 	l.Raft().Infof("%d became follower", 1)
 	l.Raft().Warningf("%d lost %d", 1, 2)
-	l.Std(Warn).Print("http: TLS handshake error")
+	for i := 0; i < 2*burst; i++ {
+		l.Std(Warn, "port").Printf("http: TLS handshake error %d", i)
+	}
 	want := `2026-05-04T12:00:00.007Z warn it is slow peer=2 took=1s error=no
 2026-05-04T12:00:00.007Z warn 1 lost 2
-2026-05-04T12:00:00.007Z warn http: TLS handshake error
 `
+	for i := 0; i < burst; i++ {
+		want += fmt.Sprintf("2026-05-04T12:00:00.007Z warn port: http: TLS handshake error %d\n", i)
+	}
 	if text.String() != want {
 		t.Errorf("%s\nand not\n%s", text, want)
 	}
@@ -115,7 +120,7 @@ func TestFatalEndsWithAWordWhateverCameBefore(t *testing.T) {
 
 func TestALevelIsReadOrRefused(t *testing.T) {
 	for i, word := range levels {
-		if level, err := ParseLevel(word); err != nil || level != Level(i) || level.String() != word {
+		if level, err := ParseLevel(word); err != nil || level != Debug+Level(i) || level.String() != word {
 			t.Error(word, level, err)
 		}
 	}

@@ -77,7 +77,7 @@ func (r *Replica) report(ctx context.Context) {
 		}
 		for _, name := range r.cfg.State.Differs() {
 			if !differs[name] {
-				r.cfg.Log.Printf("book %s of this member is not that of the others: remove this member, and add another one", name)
+				r.cfg.Log.Errorf("book %s of this member is not that of the others: remove this member, and add another one", name)
 			}
 			differs[name] = true
 		}

@@ -3,13 +3,13 @@ package replica
 import (
 	"bytes"
 	"context"
-	"log"
 	"strings"
 	"sync"
 	"testing"
 	"time"
 
 	"lrcman/service/internal/engine"
+	"lrcman/service/internal/logging"
 	"lrcman/service/internal/state"
 	"lrcman/service/internal/testengine"
 )
@@ -35,7 +35,7 @@ func (s *said) String() string {
 // newCompared is one of three members that compare books all the time.
 func newCompared(t *testing.T, leader uint64) (*member, *said) {
 	words := &said{}
-	m := newMember(t, func(cfg *Config) { cfg.Compare, cfg.Log = 20*time.Millisecond, log.New(words, "", 0) })
+	m := newMember(t, func(cfg *Config) { cfg.Compare, cfg.Log = 20*time.Millisecond, logging.New(words, logging.Config{}) })
 	m.engine.Change(func(e *testengine.Local) {
 		e.Members, e.Leader = []engine.Member{{ID: 1}, {ID: 2}, {ID: 3}}, leader
 	})
@@ -128,7 +128,7 @@ func TestAMemberThatDiffersSaysSo(t *testing.T) {
 	m.eventually(func() bool { return words.String() != "" })
 	m.settled()
 	text := words.String()
-	if strings.Count(text, "\n") != 1 || !strings.HasPrefix(text, "book p0 of this member is not that of the others") {
+	if strings.Count(text, "\n") != 1 || !strings.Contains(text, " error book p0 of this member is not that of the others") {
 		t.Errorf("%q", text)
 	}
 	if err := m.state.Look("p0", func(*state.View) error { return nil }); err != state.ErrDiffers {

@@ -5,11 +5,11 @@ package replica
 
 import (
 	"context"
-	"log"
 	"sync/atomic"
 	"time"
 
 	"lrcman/service/internal/engine"
+	"lrcman/service/internal/logging"
 	"lrcman/service/internal/state"
 )
 
@@ -26,7 +26,7 @@ type Config struct {
 	Election time.Duration // what waits for a leader longer than this is refused; 0: one second
 	Tick     time.Duration // between two ticks by the leader; 0: never
 	Compare  time.Duration // between two books that the leader has compared; 0: none is
-	Log      *log.Logger
+	Log      *logging.Logger
 	// MayChange tells why this member takes no such item now; nil: it takes all.
 	MayChange func(*state.Item) error
 	Knobs     Knobs

@@ -4,8 +4,6 @@ import (
 	"context"
 	"errors"
 	"fmt"
-	"io"
-	"log"
 	"strings"
 	"sync"
 	"sync/atomic"
@@ -14,6 +12,7 @@ import (
 
 	"lrcman/service/internal/book"
 	"lrcman/service/internal/engine"
+	"lrcman/service/internal/logging"
 	"lrcman/service/internal/state"
 	"lrcman/service/internal/testengine"
 )
@@ -39,7 +38,7 @@ func newMember(t *testing.T, change func(*Config)) *member {
 	t.Helper()
 	books := state.New()
 	e := testengine.New(books)
-	cfg := Config{Engine: e, State: books, Timeout: 2 * time.Second, Log: log.New(io.Discard, "", 0)}
+	cfg := Config{Engine: e, State: books, Timeout: 2 * time.Second, Log: logging.Nowhere()}
 	if change != nil {
 		change(&cfg)
 	}

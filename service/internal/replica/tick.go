@@ -43,7 +43,7 @@ func (r *Replica) tickAll() {
 		ctx, cancel := context.WithTimeout(context.Background(), r.cfg.Timeout)
 		item := &state.Item{Action: state.Call, Book: name, Session: 1, Command: book.Command{Kind: book.Tick}}
 		if _, err := r.Do(ctx, item); err != nil {
-			r.cfg.Log.Printf("book %s did not tick: %v", name, err)
+			r.cfg.Log.Warnf("book %s did not tick: %v", name, err)
 		}
 		cancel()
 	}

@@ -127,7 +127,7 @@ func (n *Node) restoreReceived(m raftpb.SnapshotMetadata) {
 		n.setAside(m) // (it was whole when it came)
 	}
 	n.must("the snapshot of the leader can't be read", err)
-	n.cfg.Log.Printf("the snapshot at %d was restored in %v", m.Index, since(begun))
+	n.cfg.Log.Infof("the snapshot at %d was restored in %v", m.Index, since(begun))
 }
 
 func (n *Node) isEnding() bool {

@@ -222,6 +222,6 @@ func (n *Node) promote(id uint64) {
 		return n.promotion(ctx, now, member, false)
 	})
 	if err == nil {
-		n.cfg.Log.Printf("member %d has what the leader has, and votes from now on", id)
+		n.cfg.Log.Infof("member %d has what the leader has, and votes from now on", id)
 	}
 }

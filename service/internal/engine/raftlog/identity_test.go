@@ -24,7 +24,8 @@ func TestALoneMemberSaysThatItBeginsANewGroup(t *testing.T) {
 	cfg, words := configOf(t, t.TempDir(), alone, alone)
 	cfg.New = false
 	n, _ := begin(t, cfg)
-	if !strings.HasPrefix(words.String(), "this member begins a new group, alone, in the folder "+cfg.Dir) {
+	first, _, _ := strings.Cut(words.String(), "\n")
+	if !strings.HasSuffix(first, " info this member begins a new group, alone, in the folder "+cfg.Dir) {
 		t.Errorf("said: %q", words)
 	}
 	propose(t, n, "entry 1")

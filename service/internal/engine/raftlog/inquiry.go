@@ -67,7 +67,7 @@ func (n *Node) watch() {
 	say := func(words string) {
 		if time.Since(said[words]) > calmTime {
 			said[words] = time.Now()
-			n.cfg.Log.Print(words)
+			n.cfg.Log.Warn(words)
 		}
 	}
 	for {
@@ -189,7 +189,7 @@ func (n *Node) endRefused(found verdict) {
 	it := n.identity
 	it.Refused = wordsOf(found)
 	if err := it.write(n.cfg.Dir, n.syncFolder); err != nil {
-		n.cfg.Log.Printf("the folder can't be marked: %v", err)
+		n.cfg.Log.Errorf("the folder can't be marked: %v", err)
 	}
 	n.end(lost(it.Refused))
 }

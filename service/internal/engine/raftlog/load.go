@@ -16,7 +16,6 @@ import (
 	"go.etcd.io/etcd/raft/raftpb"
 	"go.etcd.io/etcd/wal"
 	"go.etcd.io/etcd/wal/walpb"
-	"go.uber.org/zap"
 
 	"lrcman/service/internal/engine"
 )
@@ -26,15 +25,7 @@ func init() {
 	raft.SetLogger(quiet{&raft.DefaultLogger{Logger: log.New(io.Discard, "", 0)}})
 }
 
-// logToNobody keeps etcd's parts quiet: errors come back as errors, and panics still end the process.
-func (n *Node) logToNobody() error {
-	cfg := zap.NewProductionConfig()
-	cfg.Level = zap.NewAtomicLevelAt(zap.FatalLevel)
-	var err error
-	n.zap, err = cfg.Build()
-	return err
-}
-
+// quiet is the logger of what raft has beside its nodes. (A node has its own)
 type quiet struct{ *raft.DefaultLogger }
 
 func (quiet) Panic(v ...interface{})               { log.Panic(v...) }
@@ -205,7 +196,7 @@ func (n *Node) loadSnapshot() (*raftpb.Snapshot, error) {
 		} else if !errors.Is(err, engine.ErrDamaged) && !errors.Is(err, os.ErrNotExist) {
 			return nil, err
 		}
-		n.cfg.Log.Printf("snapshot at %d: %v; its name ends with .broken now", found.Metadata.Index, err)
+		n.cfg.Log.Errorf("snapshot at %d: %v; its name ends with .broken now", found.Metadata.Index, err)
 		if err := n.setAside(found.Metadata); err != nil {
 			return nil, err
 		}
@@ -214,7 +205,7 @@ func (n *Node) loadSnapshot() (*raftpb.Snapshot, error) {
 
 func (n *Node) sayOlder(found, newest uint64) {
 	if found != newest {
-		n.cfg.Log.Printf("the snapshot at %d can't be read: this member begins in the one at %d; 0 is the empty one", newest, found)
+		n.cfg.Log.Warnf("the snapshot at %d can't be read: this member begins in the one at %d; 0 is the empty one", newest, found)
 	}
 }
 
@@ -254,7 +245,7 @@ func (n *Node) readLog(newest *raftpb.Snapshot) (raftpb.HardState, []raftpb.Entr
 		if err != io.ErrUnexpectedEOF || isRepaired || !wal.Repair(n.zap, n.logFolder()) {
 			return hard, nil, n.unreadable(at.Index, err)
 		}
-		n.cfg.Log.Printf("the log ended in a torn record, which was cut off")
+		n.cfg.Log.Warnf("the log ended in a torn record, which was cut off")
 	}
 }
 

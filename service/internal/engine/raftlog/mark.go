@@ -33,7 +33,7 @@ func (n *Node) openMark() error {
 		return err
 	}
 	if crc32.Checksum(b[:16], table) != binary.LittleEndian.Uint32(b[16:]) {
-		n.cfg.Log.Printf("the file %s can't be read, so nobody looks whether the log reaches as far as it says", markName)
+		n.cfg.Log.Warnf("the file %s can't be read, so nobody looks whether the log reaches as far as it says", markName)
 		return nil
 	}
 	n.marked = mark{binary.LittleEndian.Uint64(b), binary.LittleEndian.Uint64(b[8:])}

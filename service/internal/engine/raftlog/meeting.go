@@ -36,7 +36,7 @@ func (n *Node) openIdentity() (err error) {
 		return err
 	case wal.Exist(n.logFolder()): // what it says is at the head of the log, too, but for the count of starts
 		n.identity = identity{Member: n.cfg.Self.ID, Name: n.cfg.Name, Starts: 1}
-		n.cfg.Log.Printf("the file %s can't be read: what the head of the log says is taken", identityName)
+		n.cfg.Log.Warnf("the file %s can't be read: what the head of the log says is taken", identityName)
 		return nil
 	case errors.Is(err, errChanged):
 		return fmt.Errorf("the file %s can't be read, and there is no log. Remove this member, and add one with an empty folder",
@@ -71,7 +71,7 @@ func (n *Node) beginGroup() error {
 		return nil // (the log will tell)
 	case n.identity.Group != 0:
 		if n.cfg.New {
-			n.cfg.Log.Printf("--new is passed over: the folder %s has begun", n.cfg.Dir)
+			n.cfg.Log.Infof("--new is passed over: the folder %s has begun", n.cfg.Dir)
 		}
 		return nil
 	case len(n.cfg.Members) == 0:
@@ -92,7 +92,7 @@ func (n *Node) beginAlone() error {
 	}
 	first := n.cfg.Members[0]
 	first.Folder = n.identity.Folder
-	n.cfg.Log.Printf("this member begins a new group, alone, in the folder %s", n.cfg.Dir)
+	n.cfg.Log.Infof("this member begins a new group, alone, in the folder %s", n.cfg.Dir)
 	return n.takeGroup(number, []engine.Member{first})
 }
 
@@ -156,7 +156,7 @@ func (n *Node) meet() error {
 			return err
 		}
 		if first != nil {
-			n.cfg.Log.Printf("this member begins a new group of %d, in the folder %s", len(first), n.cfg.Dir)
+			n.cfg.Log.Infof("this member begins a new group of %d, in the folder %s", len(first), n.cfg.Dir)
 			sum := sumOfFirst(n.cfg.Name, first)
 			return n.takeGroup(binary.LittleEndian.Uint64(sum[:])|1, first)
 		}
@@ -165,7 +165,7 @@ func (n *Node) meet() error {
 			return errors.New(words + ": they did not answer in time")
 		} else if time.Since(said) >= sayTime {
 			said = time.Now()
-			n.cfg.Log.Print(words)
+			n.cfg.Log.Info(words)
 		}
 		time.Sleep(meetPause)
 	}
@@ -241,7 +241,7 @@ func (n *Node) waitForGroup() error {
 			}
 			last = why
 		case <-say.C:
-			n.cfg.Log.Printf("waiting for the group that this member was added to: %s", last)
+			n.cfg.Log.Infof("waiting for the group that this member was added to: %s", last)
 		case <-end.C:
 			return fmt.Errorf("this member was not taken into its group in time: %s", last)
 		}

@@ -391,7 +391,7 @@ func (n *Node) announce() {
 		cancel()
 		var refused engine.Refused
 		if errors.As(err, &refused) {
-			n.cfg.Log.Printf("the group does not take the address of this member: %v", err)
+			n.cfg.Log.Warnf("the group does not take the address of this member: %v", err)
 			return
 		}
 	}

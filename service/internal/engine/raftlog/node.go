@@ -7,7 +7,6 @@ package raftlog
 import (
 	"context"
 	"errors"
-	"log"
 	"net/http"
 	"os"
 	"path/filepath"
@@ -25,7 +24,7 @@ import (
 	"go.uber.org/zap"
 
 	"lrcman/service/internal/engine"
-	"lrcman/service/internal/ratelog"
+	"lrcman/service/internal/logging"
 )
 
 // A Config says what a member is.
@@ -43,7 +42,7 @@ type Config struct {
 	SnapshotEvery uint64        // entries between snapshots, at most
 	SnapshotBytes uint64        // bytes of entries between snapshots, at most
 	Trailing      uint64        // entries that stay behind a snapshot, for members that are a little late
-	Log           *log.Logger
+	Log           *logging.Logger
 	Fatal         func(error) // ends the process: after a failed write nobody knows what is on disk
 	IsFull        func() bool // tells other members that the disk of this one has no room; nil: it always has
 	Knobs         Knobs
@@ -74,8 +73,6 @@ type Node struct {
 	numbers *numbers
 	zap     *zap.Logger
 	applier *applier
-	// To cfg.Log, for what others can cause as often as they like, and for what strangers at the members' port can.
-	seldom, strangers *log.Logger
 
 	turned                      int64  // atomic: when the loop turned last, in nanoseconds since 1970
 	lead, term, commit, applied uint64 // atomic
@@ -150,8 +147,8 @@ func Start(cfg Config, machine engine.Machine) (*Node, error) {
 }
 
 func newNode(cfg Config, machine engine.Machine) *Node {
-	return &Node{cfg: cfg, machine: machine, storage: raft.NewMemoryStorage(), applier: newApplier(), contacts: map[uint64]contact{},
-		seldom: ratelog.New(cfg.Log, 10, 10*time.Second), strangers: ratelog.New(cfg.Log, 10, time.Minute), spoilt: make(chan raftpb.SnapshotMetadata), waiting: map[uint64]chan outcome{},
+	return &Node{cfg: cfg, zap: cfg.Log.Zap(), machine: machine, storage: raft.NewMemoryStorage(), applier: newApplier(), contacts: map[uint64]contact{},
+		spoilt: make(chan raftpb.SnapshotMetadata), waiting: map[uint64]chan outcome{},
 		reads: map[uint64]chan uint64{}, members: map[uint64]engine.Member{}, removed: map[uint64]bool{},
 		heard: heard{at: map[uint64]time.Time{}}, starts: map[uint64]heardStart{}, vouched: map[uint64]start{},
 		hearings: make(chan hearing), round: newRound(), readers: make(chan struct{}, 1), snapshots: make(chan chan error),
@@ -162,7 +159,7 @@ func (n *Node) begin() (err error) {
 	if n.numbers, err = newNumbers(n.cfg.Self.ID); err != nil {
 		return err
 	}
-	for _, step := range []func() error{n.logToNobody, n.takeFolder, n.openMark, n.openIdentity, n.openStarts, n.newAsker, n.openPort,
+	for _, step := range []func() error{n.takeFolder, n.openMark, n.openIdentity, n.openStarts, n.newAsker, n.openPort,
 		n.beginGroup} {
 		if err := step(); err != nil {
 			return err
@@ -211,7 +208,7 @@ func (n *Node) release() {
 }
 
 func (n *Node) startRaft(isOld bool) {
-	cfg := &raft.Config{ID: n.cfg.Self.ID, ElectionTick: ticks, HeartbeatTick: 1, Storage: n.storage, Applied: n.applied,
+	cfg := &raft.Config{ID: n.cfg.Self.ID, ElectionTick: ticks, HeartbeatTick: 1, Storage: n.storage, Applied: n.applied, Logger: n.cfg.Log.Raft(),
 		MaxSizePerMsg: 1 << 20, MaxInflightMsgs: 512, MaxUncommittedEntriesSize: 64 << 20, ReadOnlyOption: raft.ReadOnlySafe,
 		// Without CheckQuorum a leader that is cut off goes on; without PreVote a member that comes back deposes a leader.
 		CheckQuorum: true, PreVote: true}

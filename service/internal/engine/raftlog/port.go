@@ -18,6 +18,8 @@ import (
 	"go.etcd.io/etcd/etcdserver/api/rafthttp"
 	"go.etcd.io/etcd/pkg/types"
 	"go.etcd.io/etcd/raft/raftpb"
+
+	"lrcman/service/internal/logging"
 )
 
 const (
@@ -64,7 +66,7 @@ func (n *Node) openPort() error {
 		return err
 	}
 	n.port.server = &http.Server{Handler: n.port, ReadHeaderTimeout: headTime, IdleTimeout: idleTime, MaxHeaderBytes: 16 << 10,
-		ErrorLog: n.strangers, ConnContext: func(ctx context.Context, c net.Conn) context.Context {
+		ErrorLog: n.cfg.Log.Std(logging.Warn, "the port for members"), ConnContext: func(ctx context.Context, c net.Conn) context.Context {
 			return context.WithValue(ctx, connectionKey{}, c)
 		}}
 	go n.port.server.Serve(n.port.listener)

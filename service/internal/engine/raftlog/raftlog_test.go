@@ -9,7 +9,6 @@ import (
 	"fmt"
 	"hash/crc32"
 	"io"
-	"log"
 	"os"
 	"path/filepath"
 	"reflect"
@@ -24,6 +23,7 @@ import (
 	"go.etcd.io/etcd/wal"
 
 	"lrcman/service/internal/engine"
+	"lrcman/service/internal/logging"
 	"lrcman/service/internal/testcerts"
 	"lrcman/service/internal/testports"
 )
@@ -150,7 +150,7 @@ func configOf(t *testing.T, folder string, self engine.Member, members ...engine
 	words := &said{}
 	return Config{Dir: folder, Name: "seven", New: true, Patience: long, Self: self, Members: members, Listen: self.Peer,
 		Election: 300 * time.Millisecond, SnapshotEvery: 1000, SnapshotBytes: 1 << 30, Trailing: 100,
-		Log: log.New(words, "", 0), Fatal: func(err error) {
+		Log: logging.New(words, logging.Config{}), Fatal: func(err error) {
 			t.Errorf("member %d: %v", self.ID, err)
 			runtime.Goexit() // (it never returns)
 		}}, words

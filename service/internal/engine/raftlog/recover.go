@@ -69,9 +69,6 @@ func Restore(cfg Config, machine engine.Machine, from io.Reader) (made Recovered
 
 // takeEmpty keeps every other process out of a folder that has nothing else in it.
 func (n *Node) takeEmpty() (err error) {
-	if err := n.logToNobody(); err != nil {
-		return err
-	}
 	if n.lock, err = lockFolder(n.cfg.Dir); err != nil {
 		return err
 	}
@@ -154,9 +151,6 @@ func (n *Node) applyAll() (made Recovered, err error) {
 func (n *Node) takeLog() (it identity, err error) {
 	if !wal.Exist(n.logFolder()) {
 		return it, fmt.Errorf("the folder %s has no log", n.cfg.Dir)
-	}
-	if err := n.logToNobody(); err != nil {
-		return it, err
 	}
 	if err := n.openFolder(); err != nil {
 		return it, err

@@ -79,7 +79,7 @@ func (n *Node) trySnapshot() error {
 	n.isSaving = true
 	n.frozen, n.unsnapped = n.unsnapped, 0
 	index, conf, head := n.handed, n.conf, n.head()
-	n.cfg.Log.Printf("a snapshot at %d is begun, %d entries and %d bytes behind the last", index, index-atomic.LoadUint64(&n.saved), n.frozen)
+	n.cfg.Log.Infof("a snapshot at %d is begun, %d entries and %d bytes behind the last", index, index-atomic.LoadUint64(&n.saved), n.frozen)
 	n.applier.add(func() { n.freeze(index, conf, head) })
 	return nil
 }
@@ -88,7 +88,7 @@ func (n *Node) trySnapshot() error {
 func (n *Node) hasWritten(err error) {
 	n.isSaving = false
 	if err != nil {
-		n.cfg.Log.Printf("a snapshot was not made: %v", err) // the log stays: the next one will do
+		n.cfg.Log.Errorf("a snapshot was not made: %v", err) // the log stays: the next one will do
 		n.unsnapped += n.frozen
 		n.retryAt = time.Now().Add(pause)
 	}
@@ -110,7 +110,7 @@ func (n *Node) write(index uint64, conf raftpb.ConfState, head head, write func(
 	}
 	n.record(made)
 	atomic.StoreUint64(&n.saved, index)
-	n.cfg.Log.Printf("the snapshot at %d was written in %v, %d bytes", index, since(begun), n.sizeOf(index))
+	n.cfg.Log.Infof("the snapshot at %d was written in %v, %d bytes", index, since(begun), n.sizeOf(index))
 	if err := n.compact(index); err != nil {
 		return err
 	}
@@ -295,17 +295,17 @@ func (n *Node) sendSnapshot(message raftpb.Message) {
 	m := message.Snapshot.Metadata
 	file, size, err := n.toSend(message)
 	if err != nil {
-		n.seldom.Printf("snapshot at %d for member %d: %v", m.Index, message.To, err)
+		n.cfg.Log.Warnf("snapshot at %d for member %d: %v", m.Index, message.To, err)
 		go n.raft.ReportSnapshot(message.To, raft.SnapshotFailure)
 		return
 	}
-	n.cfg.Log.Printf("the snapshot at %d is being sent to member %d, %d bytes", m.Index, message.To, size)
+	n.cfg.Log.Infof("the snapshot at %d is being sent to member %d, %d bytes", m.Index, message.To, size)
 	sent, begun := snap.NewMessage(message, n.verified(file, m), size), time.Now()
 	go func() {
 		if <-sent.CloseNotify() {
-			n.cfg.Log.Printf("the snapshot at %d was sent to member %d in %v", m.Index, message.To, since(begun))
+			n.cfg.Log.Infof("the snapshot at %d was sent to member %d in %v", m.Index, message.To, since(begun))
 		} else {
-			n.seldom.Printf("the snapshot at %d was not taken by member %d", m.Index, message.To)
+			n.cfg.Log.Warnf("the snapshot at %d was not taken by member %d", m.Index, message.To)
 		}
 	}()
 	n.peers.SendSnapshot(*sent)
@@ -314,7 +314,7 @@ func (n *Node) sendSnapshot(message raftpb.Message) {
 // verified is a file that is checked while it is sent.
 func (n *Node) verified(file *os.File, m raftpb.SnapshotMetadata) io.ReadCloser {
 	return newVerified(file, n.machine.Verify, func(why error) {
-		n.cfg.Log.Printf("the snapshot at %d on this disk can't be sent: %v", m.Index, why)
+		n.cfg.Log.Errorf("the snapshot at %d on this disk can't be sent: %v", m.Index, why)
 		select {
 		case n.spoilt <- m:
 		case <-n.done:
@@ -361,11 +361,11 @@ func (n *Node) hasWhole(message *raftpb.Message) bool {
 	m, begun := message.Snapshot.Metadata, time.Now()
 	err := n.check(m)
 	if err == nil {
-		n.cfg.Log.Printf("the snapshot at %d came from member %d, %d bytes, and was checked in %v", m.Index, message.From, n.sizeOf(m.Index),
+		n.cfg.Log.Infof("the snapshot at %d came from member %d, %d bytes, and was checked in %v", m.Index, message.From, n.sizeOf(m.Index),
 			since(begun))
 		return true
 	}
-	n.seldom.Printf("a snapshot at %d from member %d is refused: %v", m.Index, message.From, err)
+	n.cfg.Log.Warnf("a snapshot at %d from member %d is refused: %v", m.Index, message.From, err)
 	if errors.Is(err, engine.ErrDamaged) {
 		n.must("a damaged snapshot can't be renamed", n.setAside(m))
 	}

@@ -195,7 +195,7 @@ func (n *Node) openStarts() error {
 	var all []heardStart
 	err := readChecked(filepath.Join(n.cfg.Dir, startsName), &all)
 	if errors.Is(err, errChanged) {
-		n.cfg.Log.Printf("the file %s can't be read: this member has to hear of the others anew", startsName)
+		n.cfg.Log.Warnf("the file %s can't be read: this member has to hear of the others anew", startsName)
 	} else if err != nil && !errors.Is(err, os.ErrNotExist) {
 		return err
 	}
@@ -275,7 +275,7 @@ func (n *Node) saveStarts() error {
 	all := n.heardStarts()
 	err := writeChecked(filepath.Join(n.cfg.Dir, startsName), all, n.syncFolder)
 	if err != nil {
-		n.cfg.Log.Printf("the file %s can't be written: %v", startsName, err)
+		n.cfg.Log.Errorf("the file %s can't be written: %v", startsName, err)
 	}
 	return err
 }

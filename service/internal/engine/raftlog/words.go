@@ -15,17 +15,17 @@ func (n *Node) sayRole(before uint64, now *raft.SoftState, term uint64) {
 	switch {
 	case now.Lead == before:
 	case now.Lead == raft.None:
-		n.cfg.Log.Printf("there is no leader any more in term %d; it was member %d", term, before)
+		n.cfg.Log.Warnf("there is no leader any more in term %d; it was member %d", term, before)
 	case now.Lead == n.cfg.Self.ID:
-		n.cfg.Log.Printf("this member leads in term %d", term)
+		n.cfg.Log.Infof("this member leads in term %d", term)
 	default:
-		n.cfg.Log.Printf("member %d leads in term %d", now.Lead, term)
+		n.cfg.Log.Infof("member %d leads in term %d", now.Lead, term)
 	}
 	switch now.RaftState {
 	case raft.StatePreCandidate: // (again and again, where nobody agrees)
-		n.seldom.Printf("this member has heard of no leader, and asks whether it may begin an election; the term is %d", term)
+		n.cfg.Log.Infof("this member has heard of no leader, and asks whether it may begin an election; the term is %d", term)
 	case raft.StateCandidate:
-		n.seldom.Printf("this member begins an election in term %d", term)
+		n.cfg.Log.Infof("this member begins an election in term %d", term)
 	}
 }
 
@@ -57,9 +57,9 @@ func (n *Node) sayContacts(now time.Time) {
 
 func (n *Node) sayContact(member engine.Member, isLost bool) {
 	if isLost {
-		n.cfg.Log.Printf("member %d is not reached at %s", member.ID, member.Peer)
+		n.cfg.Log.Warnf("member %d is not reached at %s", member.ID, member.Peer)
 	} else {
-		n.cfg.Log.Printf("member %d is reached", member.ID)
+		n.cfg.Log.Infof("member %d is reached", member.ID)
 	}
 }
 
@@ -70,12 +70,12 @@ func (n *Node) sayChange(index uint64, kind raftpb.ConfChangeType, id uint64, me
 	}
 	switch kind {
 	case raftpb.ConfChangeAddNode:
-		n.cfg.Log.Printf("member %d votes from entry %d on, at %s", id, index, member.Peer)
+		n.cfg.Log.Infof("member %d votes from entry %d on, at %s", id, index, member.Peer)
 	case raftpb.ConfChangeAddLearnerNode:
-		n.cfg.Log.Printf("member %d learns from entry %d on, at %s", id, index, member.Peer)
+		n.cfg.Log.Infof("member %d learns from entry %d on, at %s", id, index, member.Peer)
 	case raftpb.ConfChangeRemoveNode:
-		n.cfg.Log.Printf("member %d was removed by entry %d", id, index)
+		n.cfg.Log.Infof("member %d was removed by entry %d", id, index)
 	case raftpb.ConfChangeUpdateNode:
-		n.cfg.Log.Printf("member %d is at %s from entry %d on", id, member.Peer, index)
+		n.cfg.Log.Infof("member %d is at %s from entry %d on", id, member.Peer, index)
 	}
 }
