@@ -284,3 +284,40 @@ func TestNumbersAreAList(t *testing.T) {
 		t.Error(membersOf(0x8005))
 	}
 }
+
+// One tick, lease or entry more than the greatest number, and a book has no image and forgets nothing.
+func TestABookWhoseNumbersAreAtTheirEndHasNoImage(t *testing.T) {
+	var nodes strings.Builder
+	for i := 0; i < 20; i++ {
+		fmt.Fprintf(&nodes, "[[node]]\nnumber = %d\nfault = %d\nupgrade = %d\nslots = 4\n", i, i, i%10)
+	}
+	const image = "image 1\nbefore %d\nclock %d\nnode 3 gone\n" +
+		"stripe 1 0:0 1:0 2:0 - 4:0 5:0 6:0 7:0 8:0 9:0 10:0 11:0 16:0 12:0 13:0 14:0\ngranted 1 0 0 0 %d 0 0 0 0 0 0 0 0 0 0 0 0\nend\n"
+	for text, line := range map[string]string{
+		fmt.Sprintf(image, 7, uint64(MostTicks), 5):   "tick",
+		fmt.Sprintf(image, 7, 4, uint64(MostGrants)):  "lease 1 3",
+		fmt.Sprintf(image, uint64(MostEntries), 4, 5): "place 1",
+	} {
+		b, err := OpenImage([]byte(nodes.String()), []byte(text))
+		if err != nil {
+			t.Fatal(err)
+		}
+		defer b.Close()
+		if whole, err := b.Image(); err != nil || string(whole) != text {
+			t.Errorf("%s: %q, %v", line, whole, err)
+		}
+		command, err := Parse(line)
+		if err != nil {
+			t.Fatal(err)
+		}
+		if _, err := b.Call(1, command); err != nil {
+			t.Errorf("%s: %v", line, err)
+		}
+		if _, err := b.Image(); !IsFull(err) {
+			t.Errorf("%s: the image: %v", line, err)
+		}
+		if err := b.Forget(); !IsFull(err) {
+			t.Errorf("%s: to forget: %v", line, err)
+		}
+	}
+}

@@ -62,8 +62,9 @@ func drawnItem(r *rand.Rand, s *State, index uint64) *Item {
 
 func drawnCall(r *rand.Rand) book.Command {
 	stripe, fragment, node := r.Intn(3), r.Intn(16), r.Intn(20)
-	lines := []string{"tick", "next", "next", fmt.Sprint("place ", stripe), fmt.Sprint("place6 ", stripe), fmt.Sprint("drop ", stripe),
-		fmt.Sprint("fail ", node), fmt.Sprint("join ", node), fmt.Sprint("down ", node), fmt.Sprint("up ", node), fmt.Sprint("drain ", node),
+	lines := []string{"tick", "next", "next", fmt.Sprint("place ", stripe), fmt.Sprint("place6 ", stripe),
+		fmt.Sprint("drop ", stripe), fmt.Sprint("fail ", node), fmt.Sprint("join ", node), fmt.Sprint("down ", node),
+		fmt.Sprint("up ", node), fmt.Sprint("drain ", node),
 		fmt.Sprintf("lease %d %d", stripe, fragment), fmt.Sprintf("done %d %d %d", stripe, fragment, 1+r.Intn(2)),
 		fmt.Sprintf("abandon %d %d %d", stripe, fragment, 1+r.Intn(2)), fmt.Sprintf("revoke %d %d", stripe, fragment)}
 	return drawnCommand(lines[r.Intn(len(lines))])
@@ -168,8 +169,8 @@ func (a *alike) replayed(snapshot []byte, begun uint64) {
 	}
 }
 
-// Members are alike: one that begins in any snapshot, each book of which was taken between any two items, tells the same and has the
-// same state in the end.
+// Members are alike: one that begins in any snapshot, each book of which was taken between any two items, tells the same and has
+// the same state in the end.
 func TestMembersAreAlike(t *testing.T) {
 	logs := 25
 	if testing.Short() {

@@ -101,6 +101,9 @@ func TestAMemberThatDiffersSaysSo(t *testing.T) {
 		p.differs(it.differs) // until it begins in a snapshot of another member
 		p.restored(p.snapshot()).differs(false)
 	}
+}
+
+func TestADigestIsOfABookThatIsThere(t *testing.T) {
 	p := newPlayer(t)
 	p.rejected(p.item(&Item{Action: Digest, Book: "p9"}), NoBook, "there is no book p9")
 	p.rejected(p.item(&Item{Action: Report, Book: "p9"}), NoBook, "there is no book p9")

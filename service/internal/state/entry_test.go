@@ -50,11 +50,21 @@ func TestAnEntryThatIsCutIsNotRead(t *testing.T) {
 	}
 }
 
+// someItems are entries that fuzz tests begin with.
+func someItems() [][]*Item {
+	tick := &Item{Action: Call, Book: "p0", Key: "k", Since: 1, Session: 1, Command: drawnCommand("tick"), At: &Position{0, opening(1)}}
+	return [][]*Item{
+		{tick, {Action: Remove, Book: "p0"}},
+		{{Action: Create, Book: "p1", Nodes: twenty}, {Action: Reopen, Book: "p0", Nodes: nodesOf(21, 4)}, tick},
+		{{Action: ChangeRules, Rules: 7}, {Action: Digest, Book: "p0"}, {Action: Report, Book: "p0", Member: 3}},
+	}
+}
+
 // Each payload is what encode makes of what is read of it, or it is not read.
 func FuzzEntry(f *testing.F) {
-	f.Add(New().Encode([]*Item{{Action: Call, Book: "p0", Key: "k", Session: 1, Command: book.Command{Kind: book.Tick}, At: &Position{1, 1}}}))
-	f.Add(New().Encode([]*Item{{Action: Create, Book: "p0", Nodes: twenty}, {Action: Reopen, Book: "p0", Nodes: twenty}, {Action: Remove}}))
-	f.Add(New().Encode([]*Item{{Action: ChangeRules, Rules: 7}, {Action: Digest, Book: "p0"}, {Action: Report, Book: "p0", Member: 3}}))
+	for _, items := range someItems() {
+		f.Add(New().Encode(items))
+	}
 	f.Add([]byte{Form, 1, 0, 0, 0, 200, 200, 200, 200})
 	f.Fuzz(func(t *testing.T, payload []byte) {
 		head, items, err := decode(payload)
@@ -74,8 +84,9 @@ func (s *State) closeAll() {
 // No payload makes a member end, but one that makes the group go to what this program lacks.
 func FuzzApply(f *testing.F) {
 	begins := New().Encode([]*Item{{Action: Create, Book: "p0", Nodes: twenty}})
-	f.Add(New().Encode([]*Item{{Action: Call, Book: "p0", Key: "k", Session: 1, Command: book.Command{Kind: book.Tick}}, {Action: Remove, Book: "p0"}}))
-	f.Add(New().Encode([]*Item{{Action: Reopen, Book: "p0", Nodes: twenty}, {Action: ChangeRules, Rules: 7}, {Action: Digest, Book: "p0"}}))
+	for _, items := range someItems() {
+		f.Add(New().Encode(items))
+	}
 	f.Add(withRules(book.Rules()+1, &Item{Action: Digest, Book: "p0"}))
 	f.Add(inForm(3, book.Rules(), &Item{Action: Digest, Book: "p0"}))
 	f.Fuzz(func(t *testing.T, payload []byte) {
@@ -84,7 +95,8 @@ func FuzzApply(f *testing.F) {
 		if _, err := s.Apply(1, begins); err != nil {
 			t.Fatal(err)
 		}
-		if _, err := s.Apply(2, payload); err != nil && (s.Change().Rules == s.Rules() || !strings.Contains(err.Error(), "nothing of it was taken")) {
+		_, err := s.Apply(2, payload)
+		if err != nil && (s.Change().Rules == s.Rules() || !strings.Contains(err.Error(), "nothing of it was taken")) {
 			t.Error(err)
 		}
 		var text bytes.Buffer

@@ -126,7 +126,13 @@ func TestACopyOfARequestMakesNothing(t *testing.T) {
 	if answer := p.item(to); !answer.IsAgain || p.s.Change().Next != 0 {
 		t.Errorf("the group goes to other rules after all: %+v", answer)
 	}
+}
 
+// The same of requests that make, open and remove books: the group keeps their keys.
+func TestACopyOfAChangeOfABookMakesNothing(t *testing.T) {
+	p := newPlayer(t)
+	p.call("tick")
+	p.call("tick")
 	create := &Item{Action: Create, Book: "p1", Nodes: twenty, Key: "c", Since: 3}
 	remove := &Item{Action: Remove, Book: "p1", Key: "r", Since: 3}
 	reopen := &Item{Action: Reopen, Book: "p0", Nodes: nodesOf(21, 4), Key: "o", Since: 3}
@@ -181,10 +187,12 @@ func TestASpentBookIsRefusedByName(t *testing.T) {
 		refused []string
 		after   []string
 	}{
-		"ticks": {fmt.Sprintf(ofOneStripe, 7, uint64(book.MostTicks)-1, 5), []string{"tick"}, []string{"tick", "tick"}, []string{"next", "place 2"}},
+		"ticks": {fmt.Sprintf(ofOneStripe, 7, uint64(book.MostTicks)-1, 5), []string{"tick"}, []string{"tick", "tick"},
+			[]string{"next", "place 2"}},
 		"leases": {fmt.Sprintf(ofOneStripe, 7, 4, uint64(book.MostGrants)-1), []string{"lease 1 3", "abandon 1 3 4293967294"},
 			[]string{"lease 1 3", "next", "next"}, []string{"tick", "place 2"}},
-		"entries": {fmt.Sprintf(ofOneStripe, uint64(book.MostEntries)-1, 4, 5), []string{"tick"}, []string{"tick", "place 1", "next", "done 1 3 9"}, nil},
+		"entries": {fmt.Sprintf(ofOneStripe, uint64(book.MostEntries)-1, 4, 5), []string{"tick"},
+			[]string{"tick", "place 1", "next", "done 1 3 9"}, nil},
 	} {
 		p := nearTheEnd(t, it.image)
 		for _, line := range it.before {
@@ -193,18 +201,7 @@ func TestASpentBookIsRefusedByName(t *testing.T) {
 			}
 		}
 		for _, q := range []*player{p, p.restored(p.snapshot())} {
-			stood := q.made()["p0"]
-			for _, line := range it.refused {
-				q.rejected(q.keyed(line, line), Spent, "")
-			}
-			if made := q.made()["p0"]; made != stood {
-				t.Errorf("%s: an entry was made", name)
-			}
-			view(t, q, func(v *View) {
-				if err := v.Forget(); err != nil {
-					t.Errorf("%s: %v", name, err)
-				}
-			})
+			q.isSpent(it.refused)
 			for _, line := range it.after {
 				if answer := q.call(line); answer.Rejected != 0 {
 					t.Errorf("%s: %s: %+v", name, line, answer)
@@ -218,6 +215,23 @@ func TestASpentBookIsRefusedByName(t *testing.T) {
 	}
 }
 
+// isSpent says that calls are refused, make no entry, and are not kept by their keys; and that the book can still forget its entries.
+func (p *player) isSpent(lines []string) {
+	p.t.Helper()
+	stood := p.made()["p0"]
+	for _, line := range lines {
+		p.rejected(p.keyed(line, line), Spent, "")
+	}
+	if made := p.made()["p0"]; made != stood {
+		p.t.Error("an entry was made")
+	}
+	view(p.t, p, func(v *View) {
+		if err := v.Forget(); err != nil {
+			p.t.Error(err)
+		}
+	})
+}
+
 // A key is of one whole request: of each part of it.
 func TestAKeyIsOfAWholeRequest(t *testing.T) {
 	p := newPlayer(t)
@@ -227,9 +241,10 @@ func TestAKeyIsOfAWholeRequest(t *testing.T) {
 	p.item(first)
 	for _, q := range []*player{p, p.restored(p.snapshot())} {
 		for what, change := range map[string]func(*Item){
-			"worker": func(i *Item) { i.Worker = "v" }, "session": func(i *Item) { i.Session = 2 }, "no place": func(i *Item) { i.At = nil },
-			"n": func(i *Item) { i.At = &Position{1, opening(1)} }, "opening": func(i *Item) { i.At = &Position{0, opening(2)} },
-			"kind": func(i *Item) { i.Command.Kind = book.Abandon }, "fragment": func(i *Item) { i.Command.Fragment = 2 },
+			"worker": func(i *Item) { i.Worker = "v" }, "session": func(i *Item) { i.Session = 2 },
+			"no place": func(i *Item) { i.At = nil }, "n": func(i *Item) { i.At = &Position{1, opening(1)} },
+			"opening": func(i *Item) { i.At = &Position{0, opening(2)} },
+			"kind":    func(i *Item) { i.Command.Kind = book.Abandon }, "fragment": func(i *Item) { i.Command.Fragment = 2 },
 			"domain": func(i *Item) { i.Command.Domain = 2 }, "epoch": func(i *Item) { i.Command.Epoch = 2 },
 			"stripe": func(i *Item) { i.Command.Stripe = 2 }, "node": func(i *Item) { i.Command.Node = 2 },
 		} {
@@ -250,7 +265,7 @@ func TestAKeyIsOfAWholeRequest(t *testing.T) {
 // A number out of its range, and a text that is too long, is refused, and so is an entry that can't be taken apart.
 func TestWhatCantBeReadIsRefused(t *testing.T) {
 	p := newPlayer(t)
-	long := strings.Repeat("x", 300)
+	long, tick := strings.Repeat("x", 300), book.Command{Kind: book.Tick}
 	for _, it := range []struct {
 		item  Item
 		want  Rejection
@@ -262,12 +277,12 @@ func TestWhatCantBeReadIsRefused(t *testing.T) {
 		{Item{Action: Create, Book: "p1", Nodes: twenty, Owner: long}, Unreadable, "the owner of the key has 300 bytes"},
 		{Item{Action: Create, Book: "p1", Nodes: make([]byte, mostNodes+1)}, Unreadable, "the text of nodes has 1048577 bytes"},
 		{Item{Action: Create, Book: "p1", Nodes: twenty, Image: make([]byte, mostImage+1)}, Unreadable, "the image has 8388609 bytes"},
-		{Item{Action: Call, Book: "p0", Worker: long, Session: 1, Command: book.Command{Kind: book.Tick}}, Unreadable, "the name of the worker"},
-		{Item{Action: Call, Book: "p0", Session: 9, Command: book.Command{Kind: book.Tick}}, OutOfRange, "out of range"},
+		{Item{Action: Call, Book: "p0", Worker: long, Session: 1, Command: tick}, Unreadable, "the name of the worker"},
+		{Item{Action: Call, Book: "p0", Session: 9, Command: tick}, OutOfRange, "out of range"},
 		{Item{Action: Call, Book: "p0", Session: 1, Command: book.Command{Kind: 77}}, OutOfRange, "out of range"},
 		{Item{Action: Call, Book: "p0", Session: 1, Command: book.Command{Kind: book.Done, Stripe: 4096}}, OutOfRange, "out of range"},
 		{Item{Action: Call, Book: "p0", Session: 1, Command: book.Command{Kind: book.Done, Fragment: 16}}, OutOfRange, "out of range"},
-		{Item{Action: Call, Book: "p0", Key: "k", Since: 1 << 40, Session: 1, Command: book.Command{Kind: book.Tick}}, OutOfRange, "since entry"},
+		{Item{Action: Call, Book: "p0", Key: "k", Since: 1 << 40, Session: 1, Command: tick}, OutOfRange, "since entry"},
 		{Item{Action: ChangeRules, Rules: 1, Form: 256}, OutOfRange, "there is no form 256"},
 	} {
 		p.rejected(p.item(&it.item), it.want, it.words)
@@ -362,16 +377,13 @@ func TestAnotherFormIsRefusedUnlessTheGroupGoesToIt(t *testing.T) {
 	ours := book.Rules()
 	p := newPlayer(t)
 	fresh := &player{t: t, s: New()}
-	for _, it := range []struct {
-		q     *player
-		words string
-	}{{p, "the member has rules 1 in form 3, and the group has rules 1"}, {fresh, "the member has rules 1 in form 3, and the group has rules 0"}} {
-		it.q.index++
-		told, err := it.q.s.Apply(it.q.index, inForm(3, ours, call(t, "tick"), call(t, "tick")))
+	for q, words := range map[*player]string{p: "and the group has rules 1", fresh: "and the group has rules 0"} {
+		q.index++
+		told, err := q.s.Apply(q.index, inForm(3, ours, call(t, "tick"), call(t, "tick")))
 		if err != nil || len(told.([]Answer)) != 2 {
 			t.Fatal(told, err)
 		}
-		it.q.rejected(told.([]Answer)[1], OtherRules, it.words)
+		q.rejected(told.([]Answer)[1], OtherRules, "the member has rules 1 in form 3, "+words)
 	}
 	p.expect(p.call("tick"), 1, "ticked 1 0")
 	p.item(&Item{Action: ChangeRules, Form: 3})
@@ -382,7 +394,8 @@ func TestAnotherFormIsRefusedUnlessTheGroupGoesToIt(t *testing.T) {
 	p.rejected(p.item(&Item{Action: ChangeRules, Rules: 99, Form: 300}), OutOfRange, "")
 	q := p.restored(p.snapshot()) // (a member with the form of before)
 	for _, it := range []*player{p, q} {
-		if _, err := it.s.Apply(10, inForm(3, ours, call(t, "tick"))); err == nil || !strings.Contains(err.Error(), "is of form 3, and this program reads form 2") {
+		_, err := it.s.Apply(10, inForm(3, ours, call(t, "tick")))
+		if err == nil || !strings.Contains(err.Error(), "is of form 3, and this program reads form 2") {
 			t.Error(err)
 		}
 	}

@@ -59,9 +59,9 @@ func (item *Item) check(at Stamp) Answer {
 		what         string
 		length, most int
 	}{
-		{"name of the book", len(item.Book), mostName}, {"key", len(item.Key), mostName}, {"owner of the key", len(item.Owner), mostOwner},
-		{"name of the worker", len(item.Worker), mostName}, {"text of nodes", len(item.Nodes), mostNodes},
-		{"image", len(item.Image), mostImage},
+		{"name of the book", len(item.Book), mostName}, {"key", len(item.Key), mostName},
+		{"owner of the key", len(item.Owner), mostOwner}, {"name of the worker", len(item.Worker), mostName},
+		{"text of nodes", len(item.Nodes), mostNodes}, {"image", len(item.Image), mostImage},
 	} {
 		if it.length > it.most {
 			return reject(Unreadable, fmt.Sprintf("the %s has %d bytes, and may have %d", it.what, it.length, it.most))
@@ -71,7 +71,8 @@ func (item *Item) check(at Stamp) Answer {
 	case item.Book == "" && item.Action != ChangeRules:
 		return reject(Unreadable, "the book has no name")
 	case item.Key != "" && item.Since >= at.Index:
-		return reject(OutOfRange, fmt.Sprintf("nothing was proposed since entry %d of the log yet: this one is %d", item.Since, at.Index))
+		words := "nothing was proposed since entry %d of the log yet: this one is %d"
+		return reject(OutOfRange, fmt.Sprintf(words, item.Since, at.Index))
 	case item.Form > 255:
 		return reject(OutOfRange, fmt.Sprintf("there is no form %d", item.Form))
 	}

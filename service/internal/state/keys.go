@@ -32,8 +32,8 @@ type told struct {
 	isAgain bool
 }
 
-// A kept is a request that came with a key, and its answer. A book has thousands, so the fields of both stand where they take little
-// room.
+// A kept is a request that came with a key, and its answer. A book has thousands, so the fields of both stand where they take
+// little room.
 type kept[A comparable] struct {
 	name  keyName
 	asked A

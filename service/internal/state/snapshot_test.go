@@ -80,15 +80,7 @@ func TestASnapshotWithWrongRecordsIsFound(t *testing.T) {
 		}
 		return b.Bytes()
 	}
-	head := p.s.recordOfHead()
-	record := func(name string) []byte {
-		record, err := p.s.books[name].record()
-		if err != nil {
-			t.Fatal(err)
-		}
-		return record
-	}
-	zero, one := record("p0"), record("p1")
+	head, zero, one := p.s.recordOfHead(), p.record("p0"), p.record("p1")
 	end := func(count byte) []byte { return []byte{endRecord, count, 0, 0, 0} }
 	for what, text := range map[string][]byte{
 		"a short head":      append(write([]byte{headRecord, 0}), "more"...),
@@ -109,10 +101,18 @@ func TestASnapshotWithWrongRecordsIsFound(t *testing.T) {
 			t.Errorf("%s: %v", what, err)
 		}
 	}
-	o := NewWith(Knobs{Rules: book.Rules()})
-	if err := o.Restore(bytes.NewReader(write(head, zero, one, end(2)))); err != nil {
+	if err := New().Restore(bytes.NewReader(write(head, zero, one, end(2)))); err != nil {
 		t.Error(err)
 	}
+}
+
+func (p *player) record(book string) []byte {
+	p.t.Helper()
+	record, err := p.s.books[book].record()
+	if err != nil {
+		p.t.Fatal(err)
+	}
+	return record
 }
 
 // A snapshot of a program from before, or of a later one, is not taken for a damaged one: else it would be set aside.
@@ -185,8 +185,7 @@ func FuzzRecord(f *testing.F) {
 	p := &player{s: New(), t: &testing.T{}}
 	p.item(&Item{Action: Create, Book: "p0", Nodes: nodesOf(2, 1), Key: "c"})
 	for _, key := range []string{"a", "b"} {
-		item := &Item{Action: Call, Book: "p0", Key: key, Owner: "o", Worker: "w", Since: 1, Session: 1, Command: book.Command{Kind: book.Tick}}
-		p.item(item)
+		p.item(&Item{Action: Call, Book: "p0", Key: key, Owner: "o", Worker: "w", Since: 1, Session: 1, Command: drawnCommand("tick")})
 	}
 	p.s.books["p0"].holders[book.FragmentID{Stripe: 1, Number: 2}] = holding{"w", 3}
 	p.s.books["p0"].holders[book.FragmentID{Stripe: 1, Number: 3}] = holding{"v", 3}

@@ -143,6 +143,11 @@ func TestItemsOfOneEntryAreAnsweredInOrder(t *testing.T) {
 	p.expect(answers[0], 1, "ticked 1 0")
 	p.expect(answers[2], 1, "ticked 1 0")
 	p.expect(answers[3], 2, "ticked 2 0")
+	for i := range answers {
+		if want := (Stamp{p.index, uint32(i)}); answers[i].At != want {
+			t.Errorf("item %d stands at %v, and not at %v", i, answers[i].At, want)
+		}
+	}
 }
 
 func TestBooksAreMade(t *testing.T) {
@@ -357,7 +362,8 @@ func TestOtherRulesAreRefusedByName(t *testing.T) {
 	if err != nil {
 		t.Fatal(err)
 	}
-	p.rejected(answers.([]Answer)[0], OtherRules, fmt.Sprintf("the member has rules %d, and the group has rules %d", others, book.Rules()))
+	words := fmt.Sprintf("the member has rules %d, and the group has rules %d", others, book.Rules())
+	p.rejected(answers.([]Answer)[0], OtherRules, words)
 	p.index = 2
 	p.expect(p.call("tick"), 1, "ticked 1 0")
 	none := withRules(1, call(t, "tick"))
@@ -371,7 +377,8 @@ func TestOtherRulesAreRefusedByName(t *testing.T) {
 	}
 	fresh := New() // the group's are not ours: this member is wrong here
 	want := fmt.Sprintf("is of rules %d, and this library has rules %d", others, book.Rules())
-	if _, err := fresh.Apply(1, withRules(others, &Item{Action: Create, Book: "p0", Nodes: twenty})); err == nil || !strings.Contains(err.Error(), want) {
+	_, err = fresh.Apply(1, withRules(others, &Item{Action: Create, Book: "p0", Nodes: twenty}))
+	if err == nil || !strings.Contains(err.Error(), want) {
 		t.Error(err)
 	}
 	if len(fresh.Names()) != 0 {
