@@ -657,7 +657,7 @@ func TestWhatIsNotTakenIsToldAsTooMany(t *testing.T) {
 }
 
 func FuzzCall(f *testing.F) {
-	for _, text := range []string{`{"command":"tick"}`, `{"session":8,"command":"done 4095 15 4294967295","key":"k","worker":"w","at":1,"opens":2}`,
+	for _, text := range []string{`{"command":"tick"}`, `{"session":8,"command":"done 4095 15 4294967295","key":"k","since":7,"worker":"w","at":1,"opens":2}`,
 		`{"command":"place 4096"}`, `{"session":256,"command":"next"}`, `{"command":"next","key":null}`, `[]`, `{"a":{"b":[1e999]}}`, "{\"command\":\"\x00\"}",
 		`{"COMMAND":"tick"}`, `{"command":"tick","command":"next"}`} {
 		f.Add([]byte(text))

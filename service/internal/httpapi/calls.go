@@ -64,7 +64,7 @@ func (c *calls) answerOf(q *request, asked change) (state.Answer, error) {
 	if err != nil {
 		return answer, err
 	}
-	q.w.Header().Set("Lrcmand-Index", strconv.FormatUint(answer.At.Index, 10))
+	q.setIndex(answer.At.Index)
 	if answer.Rejected == 0 {
 		return answer, nil
 	}
@@ -73,6 +73,11 @@ func (c *calls) answerOf(q *request, asked change) (state.Answer, error) {
 		how.status = http.StatusPreconditionFailed
 	}
 	return answer, &failure{Status: how.status, Code: how.code, Words: answer.Words}
+}
+
+// setIndex tells up to which entry of the log an answer is: a later request was first asked for behind it.
+func (q *request) setIndex(index uint64) {
+	q.w.Header().Set("Lrcmand-Index", strconv.FormatUint(index, 10))
 }
 
 // judge refuses nodes, and an image, that the library refuses: else they would stand in the log of all members first.

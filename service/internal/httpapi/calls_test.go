@@ -273,3 +273,11 @@ func TestABookThatDiffersIsShownToNobody(t *testing.T) {
 		}
 	}
 }
+
+// Each answer to a change tells an index of the log, with which a client may ask for the next one.
+func TestChangesOfMembersTellAnIndex(t *testing.T) {
+	s := newService(t, nil)
+	if answer, text := s.ask("PUT", "/members/2", `{"peer":"h:1","client":"h:2"}`); answer.Header.Get("Lrcmand-Index") != "1" {
+		t.Error(answer.Header, text)
+	}
+}

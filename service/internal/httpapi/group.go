@@ -58,6 +58,7 @@ func (g *group) sayMembers(q *request, isAgain bool) error {
 	for _, member := range status.Members {
 		rows = append(rows, row{member, member.ID == status.Leader})
 	}
+	q.setIndex(status.Applied)
 	return q.say(http.StatusOK, struct {
 		Members []row `json:"members"`
 		IsAgain bool  `json:"again,omitempty"`

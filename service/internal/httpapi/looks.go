@@ -40,7 +40,7 @@ func (l *looks) begin(q *request) (freshness, error) {
 // end is called after a look was taken.
 func (l *looks) end(q *request, n *freshness) {
 	n.Age = l.replica.Age(n.fresh)
-	q.w.Header().Set("Lrcmand-Index", strconv.FormatUint(n.Index, 10))
+	q.setIndex(n.Index)
 	q.w.Header().Set("Lrcmand-Age-Ms", strconv.FormatInt(n.Age, 10))
 }
 

@@ -5,6 +5,7 @@ import (
 	"time"
 
 	"lrcman/service/internal/book"
+	"lrcman/service/internal/engine"
 	"lrcman/service/internal/state"
 )
 
@@ -42,9 +43,12 @@ func (r *Replica) tickAll() {
 		}
 		ctx, cancel := context.WithTimeout(context.Background(), r.cfg.Timeout)
 		item := &state.Item{Action: state.Call, Book: name, Session: 1, Command: book.Command{Kind: book.Tick}}
-		if _, err := r.Do(ctx, item); err != nil {
+		_, err = r.Do(ctx, item)
+		cancel()
+		if err == engine.ErrNoLeader {
+			return // (the next leader ticks, after a whole interval)
+		} else if err != nil {
 			r.cfg.Log.Warnf("book %s did not tick: %v", name, err)
 		}
-		cancel()
 	}
 }
