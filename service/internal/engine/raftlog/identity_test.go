@@ -408,37 +408,67 @@ func endsRefused(t *testing.T, cfg Config, words string) {
 // An older copy has forgotten what it promised, whether or not the member was started since.
 func TestAnOlderCopyOfAFolderIsRefused(t *testing.T) {
 	t.Parallel()
-	for name, isStartedSince := range map[string]bool{"started since": true, "acknowledged since": false} {
-		isStartedSince := isStartedSince
+	for name, it := range map[string]struct{ isStartedSince, leads bool }{
+		"started since":      {true, false},
+		"acknowledged since": {false, false},
+		"led since":          {false, true},
+	} {
+		it := it
 		t.Run(name, func(t *testing.T) {
 			t.Parallel()
 			g := groupOf(t, 3)
 			propose(t, g.nodes[1], "entry 1")
 			g.alike(texts(1, 1))
-			old := g.other(g.leader())
-			cfg := g.configs[old]
-			g.close(old)
-			cfg.Dir = copied(t, cfg.Dir)
-			g.start(old)
-			if !isStartedSince { // (the copy is of the folder as it was while it ran, then)
-				eventually(t, "the others hear of it", func() bool {
-					for _, id := range g.up() {
-						if id != old && !g.nodes[id].hasHeard(g.nodes[old].ownStart()) {
-							return false
-						}
-					}
-					return true
-				})
-				cfg.Dir = copied(t, g.configs[old].Dir)
+			old := g.leader()
+			if !it.leads {
+				old = g.other(old)
+			}
+			copy := g.configs[old]
+			if it.isStartedSince {
+				g.close(old)
+				copy.Dir = copied(t, copy.Dir)
+				g.start(old)
+			} else {
+				g.hears(old)
+				copy.Dir = copied(t, copy.Dir)
 			}
 			all := texts(1, 20)
 			proposeAll(t, g.nodes[old], all[1:])
 			g.alike(all)
+			if it.leads {
+				g.hearsCommit(old)
+			}
 			g.close(old)
-			endsRefused(t, cfg, "this folder is an older copy")
+			endsRefused(t, copy, "this folder is an older copy")
 			g.start(old) // and that which it was copied from goes on
 			g.alike(all)
 		})
+	}
+}
+
+// hears waits until all others know the start of a member.
+func (g *group) hears(id uint64) {
+	g.t.Helper()
+	for _, other := range g.up() {
+		if other != id {
+			n := g.nodes[other]
+			eventually(g.t, "the others hear of it", func() bool { return n.hasHeard(g.nodes[id].ownStart()) })
+		}
+	}
+}
+
+// hearsCommit waits until all others heard of a leader what it has told.
+func (g *group) hearsCommit(leader uint64) {
+	g.t.Helper()
+	told := g.nodes[leader].Status().Applied
+	for _, other := range g.up() {
+		if n := g.nodes[other]; other != leader {
+			eventually(g.t, "the others hear of it", func() bool {
+				n.mu.Lock()
+				defer n.mu.Unlock()
+				return n.starts[leader].Acknowledged.Last >= told
+			})
+		}
 	}
 }
 

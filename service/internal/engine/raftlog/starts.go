@@ -38,7 +38,7 @@ func (r reach) isBefore(other reach) bool {
 // A heardStart is the last start that a member has heard of another one.
 type heardStart struct {
 	start
-	Acknowledged reach `json:"acknowledged"` // by this start, or by those before
+	Acknowledged reach `json:"acknowledged"` // by this start, or by those before; as a leader, told to be committed
 }
 
 // A verdict is what a member knows of a start of another one.
@@ -175,15 +175,24 @@ func (n *Node) takeHearing(it hearing) {
 	it.found <- found
 }
 
+// reachOf is how far the log of a sender goes for certain. A leader has saved what it tells to be committed: that was sent, and
+// acknowledged, in a Ready before this one.
+func reachOf(m *raftpb.Message) reach {
+	switch {
+	case m.Type == raftpb.MsgAppResp && !m.Reject:
+		return reach{m.Term, m.Index}
+	case m.Type == raftpb.MsgApp, m.Type == raftpb.MsgHeartbeat:
+		return reach{m.Term, m.Commit}
+	}
+	return reach{}
+}
+
 // noteAcknowledged remembers how far the log of another member goes for certain.
 func (n *Node) noteAcknowledged(m *raftpb.Message) {
-	if m.Type != raftpb.MsgAppResp || m.Reject {
-		return
-	}
+	now := reachOf(m)
 	n.mu.Lock()
 	defer n.mu.Unlock()
-	heard, isThere := n.starts[m.From]
-	if now := (reach{m.Term, m.Index}); isThere && heard.Acknowledged.isBefore(now) {
+	if heard, isThere := n.starts[m.From]; isThere && heard.Acknowledged.isBefore(now) {
 		heard.Acknowledged = now
 		n.starts[m.From] = heard
 		n.areStartsUnsaved = true
