@@ -4,10 +4,12 @@ import (
 	"context"
 	"errors"
 	"fmt"
+	"os"
 	"testing"
 	"time"
 
 	"go.etcd.io/etcd/raft/raftpb"
+	"go.etcd.io/etcd/wal"
 
 	"lrcman/service/internal/engine"
 )
@@ -105,6 +107,49 @@ func TestALearnerFollowsOneWhoAloneVotes(t *testing.T) {
 	g.refused(removing(1), "1 is the only member that votes") // (raft would end all of them)
 	g.refused(removingByForce(1), "1 is the only member that votes")
 	propose(t, g.nodes[2], "entry 10")
+}
+
+// One who alone votes commits by its own log: what it tells learners of is on its disk.
+func TestOneWhoAloneVotesSavesBeforeItSends(t *testing.T) {
+	t.Parallel()
+	self := memberAt(t, 1)
+	folder, err := os.MkdirTemp("", "saves")
+	if err != nil {
+		t.Fatal(err)
+	}
+	cfg, _ := configOf(t, folder, self, self)
+	opened, fatal := make(chan *wal.WAL, 1), make(chan error, 1)
+	cfg.Knobs.Opened = func(log *wal.WAL) { opened <- log }
+	cfg.Fatal = func(err error) {
+		fatal <- err
+		select {}
+	}
+	n, err := Start(cfg, &list{}) // (it is left to itself: its loop never ends)
+	if err != nil {
+		t.Fatal(err)
+	}
+	t.Cleanup(func() {
+		n.stopOnce.Do(func() { close(n.stop) })
+		for end := time.Now().Add(long); os.RemoveAll(folder) != nil && time.Now().Before(end); { // (a file may still be written)
+			time.Sleep(10 * time.Millisecond)
+		}
+	})
+	g := &group{t: t, configs: map[uint64]Config{1: cfg}, nodes: map[uint64]*Node{1: n}, machines: map[uint64]*list{}}
+	propose(t, n, "entry 1")
+	member := learner(memberAt(t, 2))
+	g.must(adding(member))
+	g.join(member)
+	eventually(t, "it has told its folder", func() bool { return n.Status().Members[1].Folder != 0 })
+	eventually(t, "the learner has all", func() bool { return g.nodes[2].Status().Applied == n.Status().Applied })
+	(<-opened).Close() // from now on nothing can be saved
+	go n.Propose(context.Background(), []byte("entry 2"))
+	select {
+	case <-fatal:
+	case <-time.After(long):
+		t.Fatal("it goes on")
+	}
+	time.Sleep(2 * cfg.Election)
+	expect(t, g.machines[2], texts(1, 1))
 }
 
 // A mistyped address costs nothing: the member alone goes on, and the learner that nobody hears can be removed.
