@@ -74,6 +74,7 @@ type API struct {
 	refused *tally
 	stop    chan struct{}
 	bodies  *room
+	answers *room
 	audit   *audit
 }
 
@@ -89,7 +90,8 @@ func New(cfg Config) *API {
 	if cfg.Watchers == nil {
 		cfg.Watchers = NewConnections(MostConnections)
 	}
-	a := &API{cfg: cfg, refused: &tally{}, stop: make(chan struct{}), bodies: &room{}, audit: newAudit(cfg.Audit)}
+	a := &API{cfg: cfg, refused: &tally{}, stop: make(chan struct{}), bodies: &room{most: roomOfBodies},
+		answers: &room{most: roomOfAnswers}, audit: newAudit(cfg.Audit)}
 	a.routes = a.table()
 	for _, mount := range cfg.Mounts {
 		a.routes = append(a.routes, mount.route())
@@ -283,7 +285,15 @@ func (q *request) say(status int, value interface{}) error {
 	return nil
 }
 
+// write writes an answer whole. Long ones have room together, since a client may take its own slowly.
 func (q *request) write(status int, kind string, text []byte) {
+	if cost := int64(len(text)); cost >= leastAnswer {
+		if !q.api.answers.take(cost, 0) {
+			q.fail(&failure{Status: http.StatusServiceUnavailable, Code: "busy", Words: "too many bytes of other answers are being sent"})
+			return
+		}
+		defer q.api.answers.giveBack(cost)
+	}
 	header := q.w.Header()
 	header.Set("Content-Type", kind)
 	header.Set("Content-Length", strconv.Itoa(len(text)))

@@ -10,28 +10,26 @@ import (
 	"time"
 )
 
-// The room for bodies.
+// The room for bodies and answers, in bytes.
 const (
-	roomOfBodies = 64 << 20 // bytes, for all bodies at once
-	roomOfCalls  = 8 << 20  // of these for bodies that are no longer than a call, so that texts don't hold up calls
-	costOfByte   = 2        // bytes that one of a body takes: in the body, and in the entry that is made of it
+	roomOfBodies  = 64 << 20  // for all bodies at once
+	roomOfCalls   = 8 << 20   // of these for bodies that are no longer than a call, so that texts don't hold up calls
+	costOfByte    = 2         // of a body: in the body, and in the entry that is made of it
+	roomOfAnswers = 256 << 20 // for all answers that are being sent
+	leastAnswer   = 64 << 10  // shorter ones are not counted
 )
 
-// A room is what all bodies together may take, from before they are read until their requests are answered.
+// A room is what all bodies together may take, from before they are read until their requests are answered; or all answers.
 type room struct {
-	mu    sync.Mutex
-	taken int64
+	mu          sync.Mutex
+	most, taken int64
 }
 
-// take takes room for a body, if there is so much left.
-func (o *room) take(cost int64, isCall bool) bool {
-	most := int64(roomOfBodies)
-	if !isCall {
-		most -= roomOfCalls
-	}
+// take takes room, if there is so much left beside what is kept for others.
+func (o *room) take(cost, kept int64) bool {
 	o.mu.Lock()
 	defer o.mu.Unlock()
-	if o.taken+cost > most {
+	if o.taken+cost > o.most-kept {
 		return false
 	}
 	o.taken += cost
@@ -77,7 +75,11 @@ func (q *request) bodyUpTo(most int64) ([]byte, error) {
 	if length > most {
 		return nil, tooLarge("body has", most)
 	}
-	if !q.api.bodies.take(length*costOfByte, length <= mostCall) {
+	kept := int64(roomOfCalls)
+	if length <= mostCall {
+		kept = 0
+	}
+	if !q.api.bodies.take(length*costOfByte, kept) {
 		return nil, &failure{Status: http.StatusServiceUnavailable, Code: "busy", Words: "too many bytes of other requests are being read"}
 	}
 	q.taken += length * costOfByte

@@ -4,6 +4,7 @@ import (
 	"fmt"
 	"io"
 	"net/http"
+	"net/http/httptest"
 	"strings"
 	"sync"
 	"testing"
@@ -11,22 +12,22 @@ import (
 )
 
 func TestBodiesHaveRoomTogether(t *testing.T) {
-	o := &room{}
+	o := &room{most: roomOfBodies}
 	const image = mostImage * costOfByte
 	taken := 0
-	for o.take(image, false) {
+	for o.take(image, roomOfCalls) {
 		taken++
 	}
 	if taken == 0 || taken*image > roomOfBodies-roomOfCalls {
 		t.Errorf("%d images", taken)
 	}
 	for i := 0; i < MostConnections; i++ { // so many calls there can be
-		if !o.take(mostCall*costOfByte, true) {
+		if !o.take(mostCall*costOfByte, 0) {
 			t.Fatalf("no room for call %d beside images", i)
 		}
 	}
 	o.giveBack(image)
-	if !o.take(image, false) {
+	if !o.take(image, roomOfCalls) {
 		t.Error("room that was given back is not taken again")
 	}
 }
@@ -79,4 +80,28 @@ func TestRoomIsGivenBack(t *testing.T) {
 	}
 	all.Wait()
 	wait(t, "all is given back", func() bool { return s.roomTaken() == 0 })
+}
+
+// Clients that take long answers slowly hold no more than that room; short answers are sent all the while.
+func TestAnswersHaveRoomTogether(t *testing.T) {
+	s := newService(t, nil)
+	q := func() (*request, *httptest.ResponseRecorder) {
+		recorder := httptest.NewRecorder()
+		return &request{w: recorder, r: httptest.NewRequest("GET", "/", nil), api: s.api, isRead: true}, recorder
+	}
+	s.api.answers.take(roomOfAnswers-leastAnswer, 0) // others are being sent
+	long := make([]byte, leastAnswer+1)
+	it, recorder := q()
+	if it.write(200, "text/plain", long); recorder.Code != 503 || !strings.Contains(recorder.Body.String(), `"code":"busy"`) || recorder.Header().Get("Retry-After") != "1" {
+		t.Error(recorder.Code, recorder.Body)
+	}
+	it, recorder = q()
+	if it.write(200, "text/plain", long[:leastAnswer-1]); recorder.Code != 200 {
+		t.Error(recorder.Code)
+	}
+	s.api.answers.giveBack(roomOfAnswers - leastAnswer)
+	it, recorder = q()
+	if it.write(200, "text/plain", long); recorder.Code != 200 || s.api.answers.taken != 0 {
+		t.Error(recorder.Code, s.api.answers.taken)
+	}
 }

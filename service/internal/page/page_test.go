@@ -239,7 +239,7 @@ func TestThereAreOnlySoManyStreams(t *testing.T) {
 		stops = append(stops, stop)
 	}
 	answer, err := http.Get(server.URL + "/events")
-	if err != nil || answer.StatusCode != http.StatusTooManyRequests {
+	if err != nil || answer.StatusCode != http.StatusTooManyRequests || !answer.Close || answer.Header.Get("Retry-After") != "1" {
 		t.Fatalf("one stream too many: %v, %v", answer, err)
 	}
 	answer.Body.Close()
