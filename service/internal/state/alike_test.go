@@ -172,9 +172,9 @@ func (a *alike) replayed(snapshot []byte, begun uint64) {
 // Members are alike: one that begins in any snapshot, each book of which was taken between any two items, tells the same and has
 // the same state in the end.
 func TestMembersAreAlike(t *testing.T) {
-	logs := 25
+	logs := 10
 	if testing.Short() {
-		logs = 6
+		logs = 4
 	}
 	passed := 0
 	for seed := 0; seed < logs && !t.Failed(); seed++ {
