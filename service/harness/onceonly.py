@@ -281,11 +281,11 @@ def test_ticks(count, program, folder, _):
         member.stop()
         time.sleep(5)
         member.wake()
-        woke, before = time.monotonic(), ticks(asker, member)
-        for _ in range(15):
+        woke, before, took, made = time.monotonic(), ticks(asker, member), 0, 0
+        while took < 1.5 or made == 0 and took < 15:
             lease(asker, member)
             time.sleep(0.1)
-        took, made = time.monotonic() - woke, ticks(asker, member) - before
+            made, took = ticks(asker, member) - before, time.monotonic() - woke
         count.check(f"{made} ticks in {took:.1f} s after a stop of 5 s", 0 < made <= took + 1.2)
     finally:
         member.kill()
