@@ -546,3 +546,40 @@ func TestReachesAreOrdered(t *testing.T) {
 		}
 	}
 }
+
+// Whoever speaks to a member that waits for its group has to know it.
+func TestAMemberJoinsNoGroupThatDoesNotKnowIt(t *testing.T) {
+	t.Parallel()
+	other := httptest.NewServer(http.HandlerFunc(func(w http.ResponseWriter, r *http.Request) {
+		answer(w, acquaintance{Member: 7, Name: "seven", Verdict: isStrange})
+	}))
+	defer other.Close()
+	cfg, _ := configOf(t, t.TempDir(), memberAt(t, 4))
+	cfg.Patience = 3 * time.Second
+	over := make(chan struct{})
+	go func() { // (until it is over, since its port is not open at once)
+		for {
+			select {
+			case <-over:
+				return
+			case <-time.After(50 * time.Millisecond):
+			}
+			r, _ := http.NewRequest(http.MethodPost, "http://"+cfg.Self.Peer+"/raft", nil)
+			r.Header.Set(senderHeader, "7")
+			r.Header.Set(groupHeader, "77")
+			r.Header.Set(urlsHeader, other.URL)
+			if answer, err := http.DefaultClient.Do(r); err == nil {
+				answer.Body.Close()
+			}
+		}
+	}()
+	n, err := Start(cfg, &list{})
+	close(over)
+	if err == nil {
+		n.Close()
+		t.Fatal("it joins")
+	}
+	if !strings.Contains(err.Error(), "member 7 does not know it") {
+		t.Errorf("%v", err)
+	}
+}
