@@ -26,7 +26,7 @@ def change_nodes(group, asker, number, text, limit=60):
     end = time.monotonic() + limit
     while time.monotonic() < end:
         port = group.members[group.leader()].client
-        status, _, told = asker.ask(port, "PUT", f"/books/p0/nodes?key=n{number}&since=1", text)
+        status, _, told = asker.ask(port, "PUT", f"/books/p0/nodes?key=n{number}", text)
         if status == 200:
             return
         if status not in (0, 429, 503, 504):

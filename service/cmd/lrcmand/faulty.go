@@ -7,8 +7,11 @@
 package main
 
 import (
+	"fmt"
 	"os"
 	"strconv"
+	"sync/atomic"
+	"syscall"
 	"time"
 
 	"go.etcd.io/etcd/wal"
@@ -29,6 +32,9 @@ func readKnobs() (k knobs) {
 	if slow, err := time.ParseDuration(os.Getenv("LRCMAND_SLOW_START")); err == nil {
 		k.raftlog.Opened = func(*wal.WAL) { time.Sleep(slow) }
 	}
+	if at := os.Getenv("LRCMAND_STOP_AT"); at != "" {
+		k.raftlog.Step = stopAt(at)
+	}
 	switch os.Getenv("LRCMAND_FAULT") {
 	case "early":
 		k.replica.TellEarly = peekAnswer
@@ -44,6 +50,20 @@ func readKnobs() (k knobs) {
 		k.state.Sum = func(sum [32]byte) [32]byte { sum[0] ^= 1; return sum }
 	}
 	return k
+}
+
+// stopAt counts the steps of snapshots, and stops the process before one of them, by its number or its name: for a test that kills it
+// there, or cuts its power.
+func stopAt(at string) func(string) {
+	var steps int64
+	return func(what string) {
+		number := atomic.AddInt64(&steps, 1)
+		fmt.Fprintf(os.Stderr, "step %d: %s\n", number, what)
+		if strconv.FormatInt(number, 10) == at || what == at {
+			syscall.Kill(os.Getpid(), syscall.SIGSTOP)
+			time.Sleep(time.Minute) // (the signal may take a while to stop this thread)
+		}
+	}
 }
 
 // peekAnswer answers a call with what it would be told if nothing came between, before it is in the log.

@@ -100,6 +100,9 @@ func (n *Node) serve(ready raft.Ready) bool {
 	}
 	n.giveReads(ready.ReadStates)
 	n.must("the mark can't be written", n.writeMark(mark{n.handed, atomic.LoadUint64(&n.term)}))
+	if !raft.IsEmptySnap(ready.Snapshot) {
+		n.step("answer to a snapshot")
+	}
 	// 4. Raft counts what is handed over as applied: it gives nothing twice. Readers wait for the applier.
 	n.raft.Advance()
 	n.tellChanges()
@@ -114,6 +117,7 @@ func (n *Node) serve(ready raft.Ready) bool {
 func (n *Node) save(ready raft.Ready) {
 	if !raft.IsEmptySnap(ready.Snapshot) {
 		n.saveReceived(ready.Snapshot)
+		n.step("hard state behind a snapshot")
 	}
 	// This syncs if there are entries, or a new term or vote.
 	n.must("the log can't be written", n.wal.Save(ready.HardState, ready.Entries))
@@ -167,10 +171,12 @@ func (n *Node) saveReceived(received raftpb.Snapshot) {
 // loop.
 func (n *Node) takeReceived(received raftpb.Snapshot) {
 	m := received.Metadata
+	n.step("sync behind a snapshot")
 	n.must("the log can't be synced", n.wal.Sync()) // a hard state alone was perhaps not synced
 	n.must("the log can't be kept", n.storage.ApplySnapshot(received))
 	n.renewPeers()
 	atomic.StoreUint64(&n.received, m.Index)
 	n.applier.add(func() { n.restoreReceived(m) })
+	n.step("end of a snapshot that was received")
 	n.must("old files can't be removed", n.purge())
 }

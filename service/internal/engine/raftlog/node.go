@@ -52,6 +52,7 @@ type Config struct {
 type Knobs struct {
 	Opened      func(*wal.WAL)          // is called with each log that is to be written
 	SyncFolder  func(path string) error // makes the names in a folder safe from a power cut
+	Step        func(what string)       // is called before each step of a snapshot that a crash may come before
 	AskMajority func() error            // returns when all is applied that was told before, as a majority knows
 }
 

@@ -166,9 +166,19 @@ func leastLeft(entries []raftpb.Entry) uint64 {
 // be started from. So the names have to be on disk before it, too.
 func (n *Node) record(made raftpb.Snapshot) {
 	m := made.Metadata
+	n.step("metadata of a snapshot")
 	n.must("a snapshot can't be written", n.snaps.SaveSnap(made))
+	n.step("names of a snapshot")
 	n.must("the folder of snapshots can't be synced", n.syncFolder(n.snapFolder()))
+	n.step("record of a snapshot")
 	n.must("the log can't be written", n.wal.SaveSnapshot(walpb.Snapshot{Index: m.Index, Term: m.Term}))
+}
+
+// step lets a test end the process at a place of its choice.
+func (n *Node) step(what string) {
+	if n.cfg.Knobs.Step != nil {
+		n.cfg.Knobs.Step(what)
+	}
 }
 
 func (n *Node) writeFile(path string, head head, write func(io.Writer) error) error {
@@ -184,13 +194,12 @@ func (n *Node) writeFile(path string, head head, write func(io.Writer) error) er
 	if err := write(file); err != nil {
 		return err
 	}
+	n.step("sync of a snapshot")
 	if err := fileutil.Fsync(file); err != nil {
 		return err
 	}
-	if err := os.Rename(file.Name(), path); err != nil {
-		return err
-	}
-	return n.syncFolder(n.snapFolder())
+	n.step("rename of a snapshot")
+	return os.Rename(file.Name(), path) // (record syncs the name)
 }
 
 // purge keeps two snapshots, and the log behind the older one: so that a start has one to fall back to. A file that is being
@@ -231,6 +240,7 @@ func (n *Node) purgeSnapshots(kept map[uint64]bool, last uint64) error {
 		if err != nil || kept[index] || isState && index > last {
 			continue
 		}
+		n.step("removal of a snapshot")
 		if err := os.Remove(filepath.Join(n.snapFolder(), name)); err != nil && !errors.Is(err, os.ErrNotExist) {
 			return err
 		}
@@ -279,9 +289,11 @@ func (n *Node) purgeLog(upTo uint64) error {
 		if first > upTo {
 			return nil
 		}
+		n.step("removal of a file of the log")
 		if err := os.Remove(names[i]); err != nil && !errors.Is(err, os.ErrNotExist) {
 			return err // (it is gone where a snapshot of the leader came while one was written)
 		}
+		n.step("sync of a removal")
 		if err := n.syncFolder(n.logFolder()); err != nil {
 			return err
 		}
