@@ -225,14 +225,15 @@ def run_all(threads, limit=90):
         thread.join(limit)
 
 
-def send_image(port, number, answers):
-    """Sends a body with an image of 8 MiB, and notes what is told; a status of 0 is no answer."""
-    text = json.dumps({"nodes": "x", "image": "y" * (IMAGE - 40)}).encode()
+def send_image(port, number, text, together, answers):
+    """Sends a body with an image when all others do, and notes what is told; a status of 0 is no answer."""
     head = f"PUT /books/i{number} HTTP/1.1\r\nHost: localhost\r\nContent-Type: application/json\r\n"
     head += f"Content-Length: {len(text)}\r\n\r\n"
     with socket.create_connection(("127.0.0.1", port), 60) as one:
+        together.wait()
         try:
-            one.sendall(head.encode() + text)
+            one.sendall(head.encode())
+            one.sendall(text)
         except OSError:
             pass  # (it may be refused before it is sent)
         answer = http.client.HTTPResponse(one)
@@ -247,8 +248,9 @@ def test_bodies(count, program, room, nodes):
     """100 bodies of 8 MiB at once: each is told what becomes of it, and memory is bounded. Calls go on."""
     with Alone(program, f"{room}/bodies", nodes) as alone, Caller(alone.member.client) as caller:
         answers, begun = [], time.monotonic()
-        told = caller.told
-        run_all([threading.Thread(target=send_image, args=(alone.member.client, number, answers)) for number in range(BODIES)])
+        told, text = caller.told, json.dumps({"nodes": "x", "image": "y" * (IMAGE - 40)}).encode()
+        how = text, threading.Barrier(BODIES, timeout=60), answers
+        run_all([threading.Thread(target=send_image, args=(alone.member.client, number, *how)) for number in range(BODIES)])
         took, calls, most = time.monotonic() - begun, caller.told - told, alone.status_file("VmHWM")
         busy = [it for it in answers if it[0] == 503]
         taken = [it for it in answers if it[0] == 422]

@@ -287,6 +287,7 @@ func TestWhatIsNoRequestIsRefused(t *testing.T) {
 		"GET /health HTTP/1.1\r\nHost: x\r\nExpect: more\r\n\r\n":                           417,
 		"GET /health HTTP/1.1\r\nHost: x\r\nX: " + strings.Repeat("x", 40<<10) + "\r\n\r\n": 431,
 		"PUT /books/p1 HTTP/1.1\r\nHost: x\r\nTransfer-Encoding: gzip\r\n\r\n":              501,
+		"GET /health HTTP/3.1\r\nHost: x\r\n\r\n":                                           505,
 	} {
 		c := s.dialWith(text)
 		answer, err := http.ReadResponse(bufio.NewReader(c), nil)
