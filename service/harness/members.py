@@ -74,7 +74,8 @@ def test_alone(count, program, room, topology):
         status, told = put(group, one, wrong)
         count.check(f"its number is not used again: {status} {told}", (status, told.get("code")) == (409, "refused_change"))
         status, told = group.asker.json(one.client, "DELETE", "/members/1?force=1")
-        count.check(f"the last one that votes stays: {status} {told}", status == 409 and "only member that votes" in told.get("error", ""))
+        is_right = status == 409 and "only member that votes" in told.get("error", "")
+        count.check(f"the last one that votes stays: {status} {told}", is_right)
         group.add(3)
         call_in_time(count, group, group.members[3], "c")
 
@@ -178,7 +179,7 @@ class Taken:
 
 
 def check_calls(count, taken, group, member):
-    """What was told before is there, and the books are of one place: no call is there without one that was told before it began."""
+    """What was told before is there, and the books are of one place: no call without one that was told before it began."""
     made = {book: entries_of(group, member, book)[1] for book in taken.logs}
     lost = [it for it in taken.told if it.n > made[it.book]]
     early = [it for it in lost if it.told < taken.asked]
@@ -188,7 +189,8 @@ def check_calls(count, taken, group, member):
     count.check(f"the books are of one place of the log: {late[:3]}, {len(lost)} of {len(taken.told)} are not in it", not late)
     for book, log in taken.logs.items():
         text = group.asker.ask(member.client, "GET", f"/books/{book}/image?now=1")[2]
-        count.check(f"{book} has the image of its first {made[book]} entries", text == image_of(taken.nodes, log[:made[book]]).encode())
+        right = image_of(taken.nodes, log[:made[book]]).encode()
+        count.check(f"{book} has the image of its first {made[book]} entries", text == right)
     keyed = [it for it in taken.told if isinstance(it.client, int)]  # (others make calls without keys)
     kept = [it for it in keyed if it.n <= made[it.book]][-40:]
     for it in kept:
@@ -216,17 +218,19 @@ def test_backup(count, program, room, nodes, topology):
     count.check(f"the group goes on beside it: {taken.faults[:3]}", not taken.faults)
     group = Group(program, f"{room}/restored", 0, WORDS)
     member = Member(group, 4, WORDS)
-    words = [program, "restore", "--data", member.folder, "--from", taken.file, "--id", "4", "--listen", f"127.0.0.1:{member.client}",
-             "--peer", f"127.0.0.1:{member.peer}"]
+    words = [program, "restore", "--data", member.folder, "--from", taken.file, "--id", "4",
+             "--listen", f"127.0.0.1:{member.client}", "--peer", f"127.0.0.1:{member.peer}"]
     with open(taken.file, "rb") as file:
         text = bytearray(file.read())
     text[len(text) // 2] ^= 1
     with open(f"{room}/damaged.backup", "wb") as file:
         file.write(text)
-    ran = subprocess.run([f"{room}/damaged.backup" if it == taken.file else it for it in words], capture_output=True, text=True, timeout=60)
+    damaged = [f"{room}/damaged.backup" if it == taken.file else it for it in words]
+    ran = subprocess.run(damaged, capture_output=True, text=True, timeout=60)
     count.check(f"a damaged one is refused: {ran}", ran.returncode == 1 and "damaged" in ran.stderr)
     said = count.run("restore", *words, timeout=60)
-    count.check(f"it says what it is: {said}", said and f"up to entry {taken.headers['Lrcmand-Index']} of its group, whose members were 1, 2, 3" in said)
+    right = f"up to entry {taken.headers['Lrcmand-Index']} of its group, whose members were 1, 2, 3"
+    count.check(f"it says what it is: {said}", said and right in said)
     group.members[4] = member
     with group:
         wait_ready(group.asker, member, 60)
@@ -235,7 +239,8 @@ def test_backup(count, program, room, nodes, topology):
         group.add(5)
         call_in_time(count, group, group.members[5], "z")
     ran = subprocess.run(words, capture_output=True, text=True, timeout=60)
-    count.check(f"a folder that has something in it is left as it is: {ran}", ran.returncode == 1 and "has something in it" in ran.stderr)
+    is_right = ran.returncode == 1 and "has something in it" in ran.stderr
+    count.check(f"a folder that has something in it is left as it is: {ran}", is_right)
 
 
 def lose_two(count, program, room, nodes, topology):

@@ -100,8 +100,8 @@ func (r *repair) restore(cfg raftlog.Config, books *state.State) (string, error)
 	if err != nil {
 		return "", err
 	}
-	return fmt.Sprintf("member %d is a new group of its own, with all that the backup has: up to entry %d of its group, whose members were %s.\n"+
-		"What they told behind entry %d is not in it. Folders of that group are not taken into this one.", made.Self.ID, made.Last,
+	return fmt.Sprintf("member %d is a new group of its own, with all that the backup has: up to entry %d of its group, whose members "+
+		"were %s.\nWhat they told behind entry %d is not in it. Folders of that group are not taken into this one.", made.Self.ID, made.Last,
 		listOf(made.Others), made.Last), nil
 }
 
@@ -115,7 +115,8 @@ func (r *repair) recover(cfg raftlog.Config, books *state.State) (string, error)
 	}
 	others := "It had no other member."
 	if len(made.Others) > 0 {
-		others = fmt.Sprintf("The folders of members %s are of the old group: empty them, and add these members with new numbers.", listOf(made.Others))
+		others = fmt.Sprintf("The folders of members %s are of the old group: empty them, and add these members with new numbers.",
+			listOf(made.Others))
 	}
 	return fmt.Sprintf("member %d is a new group of its own, with all that its log has: up to entry %d.\n"+
 		"It knew the entries up to %d as committed. The %d behind that are kept, since they may have been told.\n"+

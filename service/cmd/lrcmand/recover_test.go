@@ -19,7 +19,8 @@ func TestWordsOfRestoreAndRecover(t *testing.T) {
 		"recover --data d --from f":            "flag provided but not defined: -from",
 	} {
 		var out, says bytes.Buffer
-		if status := runRepair(strings.Fields(words), &out, &says); status != statusUsage || !strings.Contains(says.String(), want) || out.Len() > 0 {
+		status := runRepair(strings.Fields(words), &out, &says)
+		if status != statusUsage || !strings.Contains(says.String(), want) || out.Len() > 0 {
 			t.Errorf("%s: %d %q %q", words, status, out.String(), says.String())
 		}
 	}

@@ -84,8 +84,8 @@ func (n *Node) takeBackup(ctx context.Context) (file *os.File, entries []raftpb.
 		file.Close()
 		return nil, nil, head, err
 	}
-	head = backupHead{Group: n.identity.Group, Name: n.identity.Name, Member: n.cfg.Self.ID, Members: n.sorted(), Snapshot: saved, Index: applied,
-		Term: atomic.LoadUint64(&n.term)}
+	head = backupHead{Group: n.identity.Group, Name: n.identity.Name, Member: n.cfg.Self.ID, Members: n.sorted(), Snapshot: saved,
+		Index: applied, Term: atomic.LoadUint64(&n.term)}
 	return file, entries, head, nil
 }
 
@@ -108,7 +108,7 @@ func (n *Node) openWhole(index uint64) (*os.File, error) {
 	return file, nil
 }
 
-// awaitSnapshot waits for another snapshot than the last one, and asks for it. It returns why there is none when the context ends.
+// awaitSnapshot asks for another snapshot than the last one, and waits a little. It returns why there is none when the context ends.
 func (n *Node) awaitSnapshot(ctx context.Context, why error) error {
 	n.Snapshot(ctx) // (if one is being written already, that one will do)
 	select {

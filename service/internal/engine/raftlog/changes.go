@@ -60,7 +60,7 @@ func (n *Node) roster() roster {
 	return now
 }
 
-// leads is the error where this member is not the leader. A leader knows by its own log alone who is heard of, and what others lack.
+// leads is the error where this member is not the leader, who alone knows what others lack, and hears of them all the time.
 func (n *Node) leads(now roster) error {
 	switch leader := atomic.LoadUint64(&n.lead); leader {
 	case n.cfg.Self.ID:
@@ -156,7 +156,7 @@ func (n *Node) checkReady(id uint64) error {
 	case lacks > mostLag:
 		return engine.Refused(fmt.Sprintf("member %d lacks %d entries, and may vote once it lacks no more than %d", id, lacks, mostLag))
 	case progress.Match == 0 || progress.State == tracker.StateSnapshot: // (few entries may be in a large snapshot)
-		return engine.Refused(fmt.Sprintf("member %d lacks %d entries, and is still to get a snapshot, or the first of them", id, lacks))
+		return engine.Refused(fmt.Sprintf("member %d lacks %d entries, and a snapshot or the first of them", id, lacks))
 	}
 	return nil
 }

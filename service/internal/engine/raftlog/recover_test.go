@@ -68,8 +68,9 @@ func TestABackupHasASnapshotAndTheEntriesBehindIt(t *testing.T) {
 		if !reflect.DeepEqual(machine.all(), texts(1, 30)) {
 			t.Errorf("%s: %q", name, machine.all())
 		}
-		if made.Last != applied || made.Commit != applied || other.Status().Applied <= applied+gap || other.Status().Term <= n.Status().Term {
-			t.Errorf("%s: %+v, %+v behind %+v", name, made, other.Status(), n.Status())
+		before, now := n.Status(), other.Status()
+		if made.Last != applied || made.Commit != applied || now.Applied <= applied+gap || now.Term <= before.Term {
+			t.Errorf("%s: %+v, %+v behind %+v", name, made, now, before)
 		}
 		propose(t, other, "entry 31")
 		other.Close()
@@ -176,7 +177,8 @@ func TestABackupThatIsNotWholeIsRefused(t *testing.T) {
 	text := backupOf(t, n)
 	propose(t, n, "entry 6")
 	text6 := backupOf(t, n)
-	damaged := map[string][]byte{"empty": nil, "another mark": append([]byte("x"), text[1:]...), "more": append([]byte("x"), text...)}
+	x := []byte("x")
+	damaged := map[string][]byte{"empty": nil, "another mark": append(x, text[1:]...), "more": append(x, text...)}
 	for place := 0; place < len(text); place += 7 {
 		damaged[fmt.Sprintf("cut at %d", place)] = text[:place]
 		changed := append([]byte(nil), text...)
@@ -229,11 +231,13 @@ func TestABackupIsRestoredIntoAnEmptyFolderAlone(t *testing.T) {
 	n, _ := begin(t, cfg)
 	propose(t, n, "entry 1")
 	text := backupOf(t, n)
-	if _, err := Restore(cfg, &list{}, bytes.NewReader(text)); err == nil || !strings.Contains(err.Error(), "another process has the folder") {
+	_, err := Restore(cfg, &list{}, bytes.NewReader(text))
+	if err == nil || !strings.Contains(err.Error(), "another process has the folder") {
 		t.Error(err)
 	}
 	n.Close()
-	if _, err := Restore(cfg, &list{}, bytes.NewReader(text)); err == nil || !strings.Contains(err.Error(), "has something in it") {
+	_, err = Restore(cfg, &list{}, bytes.NewReader(text))
+	if err == nil || !strings.Contains(err.Error(), "has something in it") {
 		t.Error(err)
 	}
 	n, machine := begin(t, cfg)
@@ -324,7 +328,8 @@ func TestALearnerIsRecovered(t *testing.T) {
 	g.start(2)
 	propose(t, g.nodes[2], "entry 4")
 	expect(t, g.machines[2], texts(1, 4))
-	if members := g.nodes[2].Status().Members; len(members) != 1 || members[0].Learner || members[0].Folder == g.configs[2].Self.Folder {
+	members := g.nodes[2].Status().Members
+	if len(members) != 1 || members[0].Learner || members[0].Folder == 0 || members[0].Folder == made.Self.Folder {
 		t.Errorf("%+v", members)
 	}
 }
@@ -335,7 +340,8 @@ func TestAMemberThatWasRemovedIsNotRecovered(t *testing.T) {
 	g := groupOf(t, 3)
 	propose(t, g.nodes[1], "entry 1")
 	gone := g.removeLeader()
-	if _, err := Recover(recovering(g.configs[gone]), &list{}); err == nil || !strings.Contains(err.Error(), "is none of its group") {
+	_, err := Recover(recovering(g.configs[gone]), &list{})
+	if err == nil || !strings.Contains(err.Error(), "is none of its group") {
 		t.Error(err)
 	}
 }
