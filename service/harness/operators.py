@@ -88,7 +88,7 @@ class Steady(threading.Thread):
     def __init__(self, group, number, keyed, at=None):
         super().__init__(daemon=True)
         self.ports, self.number, self.keyed, self.at = group.ports(), number, keyed, at
-        self.is_over, self.told, self.cut, self.wrong, self.asked = threading.Event(), [], 0, [], 0
+        self.is_over, self.told, self.cut, self.wrong, self.asked, self.codes = threading.Event(), [], 0, [], 0, set()
 
     def run(self):
         port = self.at or self.ports[self.number % len(self.ports)]
@@ -97,7 +97,9 @@ class Steady(threading.Thread):
             if status == 200:
                 self.told.append((time.monotonic(), told["n"]))
                 self.asked += 1
-            elif status not in (0, 503):
+                continue
+            self.codes.add(told["code"] if told else "refused")
+            if status not in (0, 503):
                 self.wrong.append((status, told))
             elif self.at:
                 return  # (its member is gone)
@@ -160,6 +162,8 @@ def judge_end(count, group, clients, leader, sent):
     numbers, cut = [n for it in clients for _, n in it.told], sum(it.cut for it in clients)
     print(f"a leader ends under load: {len(numbers)} told, {cut} cut, longest silence {silence * 1000:.0f} ms", flush=True)
     count.check(f"calls are told 200 or 503 and nothing else: {wrong}", not wrong)
+    codes = {code for it in clients for code in it.codes}
+    count.check(f"whoever asks a member that ends is told so: {codes}", "ended" in codes)
     count.check(f"the silence of {silence:.2f} s is shorter than an election", silence < ELECTION)
     count.check(f"a connection may be cut as the port is closed, and no client sees two: {cut}", all(it.cut <= 1 for it in clients))
     at = next(it for it in group.members.values() if it is not leader)

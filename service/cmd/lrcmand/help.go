@@ -24,7 +24,7 @@ var groups = []usage.Group{
 	{Title: "Member", Names: []string{"data", "listen", "listen-metrics", "host", "id"}},
 	{Title: "Group", Names: []string{"members", "new", "join", "peer", "peer-name", "group"}},
 	{Title: "Times", Names: []string{"tick", "compare", "election", "timeout"}},
-	{Title: "Disk and limits", Names: []string{"snapshot-every", "trailing", "disk-reserve", "rate"}},
+	{Title: "Disk and limits", Names: []string{"snapshot-every", "snapshot-bytes", "trailing", "disk-reserve", "rate"}},
 	{Title: "Rights and certificates", Names: []string{"token-file", "audit-file", "cert", "key", "client-ca", "peer-cert", "peer-key", "peer-ca",
 		"trust-network"}},
 	{Title: "What it tells", Names: []string{"log-format", "log-level", "version"}},

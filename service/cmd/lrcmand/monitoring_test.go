@@ -18,7 +18,7 @@ import (
 	"lrcman/service/internal/testports"
 )
 
-// start runs a member alone, which ends with the test's process, and returns its address.
+// start runs a member alone, which ends with the test, and returns its address.
 func start(t *testing.T) string {
 	t.Helper()
 	address := testports.Free(t)
@@ -26,7 +26,14 @@ func start(t *testing.T) string {
 	if err != nil {
 		t.Fatal(err)
 	}
-	go run(o, logging.Nowhere())
+	s, status := startService(o, logging.Nowhere())
+	if s == nil {
+		t.Fatal(status)
+	}
+	t.Cleanup(func() {
+		s.close()
+		<-s.engine.Done()
+	})
 	for begin := time.Now(); ; time.Sleep(20 * time.Millisecond) {
 		if answer, err := http.Get("http://" + address + "/health"); err == nil {
 			answer.Body.Close()

@@ -14,6 +14,7 @@ import (
 	"lrcman/service/internal/httpapi"
 	"lrcman/service/internal/logging"
 	"lrcman/service/internal/state"
+	"lrcman/service/internal/usage"
 )
 
 // A repair is `lrcmand restore` or `lrcmand recover`: what it was told, and what it makes.
@@ -38,7 +39,11 @@ var repairs = map[string]func(*flag.FlagSet, *repair){
 // runRepair makes a group of one, and says in words what is in it. It returns the status to end with.
 func runRepair(words []string, out, says io.Writer) int {
 	r, err := readRepair(words)
-	if err != nil {
+	var told answer
+	if errors.As(err, &told) {
+		fmt.Fprint(out, told)
+		return 0
+	} else if err != nil {
 		fmt.Fprintf(says, "lrcmand %s: %v\n", words[0], err)
 		return statusUsage
 	}
@@ -63,8 +68,10 @@ func readRepair(words []string) (*repair, error) {
 	flags.SetOutput(io.Discard)
 	flags.StringVar(&r.data, "data", "", "folder of the member")
 	repairs[words[0]](flags, r)
-	if err := flags.Parse(words[1:]); err != nil {
-		return nil, err
+	if err := flags.Parse(words[1:]); errors.Is(err, flag.ErrHelp) {
+		return nil, answer("usage: lrcmand " + words[0] + " OPTIONS\n\n" + usage.List(flags, nil))
+	} else if err != nil {
+		return nil, usage.Explain(flags, err)
 	}
 	switch {
 	case flags.NArg() > 0:

@@ -16,7 +16,7 @@ func TestWordsOfRestoreAndRecover(t *testing.T) {
 		"restore --data d --from f --peer h":   "--peer has to be HOST:PORT",
 		"restore --data d --from f more":       `this word is none of the options: "more"`,
 		"recover":                              "lrcmand recover: --data DIR is missing",
-		"recover --data d --from f":            "flag provided but not defined: -from",
+		"recover --data d --from f":            "there is no option --from",
 	} {
 		var out, says bytes.Buffer
 		status := runRepair(strings.Fields(words), &out, &says)

@@ -144,10 +144,22 @@ func TestWhatTheCommandLineAsksForIsAnswered(t *testing.T) {
 				t.Errorf("%s lacks %q: %s", word, part, told)
 			}
 		}
+		if strings.Contains(string(told), "Others:") {
+			t.Errorf("an option is in no group: %s", told)
+		}
 		for _, line := range strings.Split(string(told), "\n") {
 			if len(line) > 130 {
 				t.Errorf("a long line: %s", line)
 			}
+		}
+	}
+}
+
+func TestRepairsHaveHelpToo(t *testing.T) {
+	for _, word := range []string{"restore", "recover"} {
+		var out, says bytes.Buffer
+		if status := runRepair([]string{word, "-h"}, &out, &says); status != 0 || says.Len() > 0 || !strings.Contains(out.String(), "  --data ") {
+			t.Errorf("%s: %d %q %q", word, status, out.String(), says.String())
 		}
 	}
 }

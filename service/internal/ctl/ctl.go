@@ -14,6 +14,7 @@ import (
 	"time"
 
 	"lrcman/service/client"
+	"lrcman/service/internal/usage"
 )
 
 // The statuses that ctl ends with.
@@ -185,7 +186,7 @@ func (o *options) parse(words []string, out io.Writer) ([]string, error) {
 			flags.PrintDefaults()
 			return nil, err
 		} else if err != nil {
-			return nil, usageError(err.Error())
+			return nil, usageError(usage.Explain(flags, err).Error())
 		}
 		if words = flags.Args(); len(words) == 0 {
 			break

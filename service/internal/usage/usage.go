@@ -20,7 +20,7 @@ type Group struct {
 // prefix: --data-folder is PREFIX_DATA_FOLDER. The words that are no options are flags.Args().
 func Parse(flags *flag.FlagSet, prefix string, words []string) error {
 	if err := flags.Parse(words); err != nil {
-		return explain(flags, err)
+		return Explain(flags, err)
 	}
 	given := map[string]bool{}
 	flags.Visit(func(f *flag.Flag) { given[f.Name] = true })
@@ -43,8 +43,8 @@ func Variable(prefix, name string) string {
 	return prefix + "_" + strings.ToUpper(strings.ReplaceAll(name, "-", "_"))
 }
 
-// explain names the option that is nearest to one that there is not.
-func explain(flags *flag.FlagSet, err error) error {
+// Explain names the option that is nearest to one that there is not.
+func Explain(flags *flag.FlagSet, err error) error {
 	_, name, isUnknown := strings.Cut(err.Error(), "flag provided but not defined: -")
 	if !isUnknown {
 		return err
@@ -127,7 +127,7 @@ func List(flags *flag.FlagSet, groups []Group) string {
 			others = append(others, f.Name)
 		}
 	})
-	write("Others", others)
+	write(map[bool]string{true: "Options", false: "Others"}[len(groups) == 0], others)
 	return strings.TrimLeft(text.String(), "\n")
 }
 
