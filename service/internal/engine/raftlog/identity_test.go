@@ -255,19 +255,15 @@ func TestAMemberThatIsKilledInItsFirstMomentsComesUp(t *testing.T) {
 		}
 		return syncFolder(path)
 	}
-	errs := make(chan error, 1)
-	go func() {
-		_, err := Start(killed, &list{})
-		errs <- err
-	}()
-	delete(g.configs, 3)
-	g.startAll()
-	if err := <-errs; err != why {
-		t.Fatal(err)
-	}
+	g.startBy(func(cfg Config, machine engine.Machine) (*Node, error) {
+		if cfg.Self.ID == 3 { // (the others may not have heard of it by then, and wait until it is back)
+			if _, err := Start(killed, &list{}); err != why {
+				t.Error(err)
+			}
+		}
+		return Start(cfg, machine)
+	})
 	propose(t, g.nodes[1], "entry 1")
-	g.configs[3] = whole
-	g.start(3)
 	propose(t, g.nodes[3], "entry 2")
 	g.alike(texts(1, 2))
 }

@@ -597,6 +597,12 @@ func groupOf(t *testing.T, size int, changes ...func(*Config)) *group {
 // startAll starts the members beside each other: first ones wait for one another.
 func (g *group) startAll() {
 	g.t.Helper()
+	g.startBy(Start)
+}
+
+// startBy starts the members beside each other, each by a function.
+func (g *group) startBy(start func(Config, engine.Machine) (*Node, error)) {
+	g.t.Helper()
 	type begun struct {
 		id      uint64
 		node    *Node
@@ -607,7 +613,7 @@ func (g *group) startAll() {
 	for id, cfg := range g.configs {
 		go func(id uint64, cfg Config) {
 			machine := &list{}
-			n, err := Start(cfg, machine)
+			n, err := start(cfg, machine)
 			all <- begun{id, n, machine, err}
 		}(id, cfg)
 	}
