@@ -25,7 +25,8 @@ var groups = []usage.Group{
 	{Title: "Group", Names: []string{"members", "new", "join", "peer", "peer-name", "group"}},
 	{Title: "Times", Names: []string{"tick", "compare", "election", "timeout"}},
 	{Title: "Disk and limits", Names: []string{"snapshot-every", "snapshot-bytes", "trailing", "disk-reserve", "rate"}},
-	{Title: "Rights and certificates", Names: []string{"token-file", "audit-file", "cert", "key", "client-ca", "peer-cert", "peer-key", "peer-ca",
+	{Title: "Rights and certificates", Names: []string{"token-file", "audit-file", "cert", "key", "client-ca", "peer-cert",
+		"peer-key", "peer-ca",
 		"trust-network"}},
 	{Title: "What it tells", Names: []string{"log-format", "log-level", "version"}},
 }

@@ -54,7 +54,8 @@ func TestTheRoomOfAFolderIsMeasuredAgain(t *testing.T) {
 	}
 	changed := make(chan bool, 1)
 	calls := 0
-	w := New(Config{Reserve: 10, Changed: func(isLow bool, _ int64) { changed <- isLow }, Free: func(string) int64 { calls++; return int64(20 - 15*(calls-1)) }})
+	free := func(string) int64 { calls++; return int64(20 - 15*(calls-1)) }
+	w := New(Config{Reserve: 10, Changed: func(isLow bool, _ int64) { changed <- isLow }, Free: free})
 	ctx, stop := context.WithCancel(context.Background())
 	defer stop()
 	go w.Run(ctx)

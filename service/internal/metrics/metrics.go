@@ -198,7 +198,8 @@ var (
 )
 
 var descs = []*prometheus.Desc{leaderDesc, isLeaderDesc, membersDesc, termDesc, commitDesc, appliedDesc, snapDesc, firstDesc,
-	writtenDesc, brokenDesc, booksDesc, differDesc, waitingDesc, freeDesc, reserveDesc, readOnlyDesc, expiryDesc, entriesDesc, clockDesc, commandsDesc, refusalsDesc, expiredDesc, missedDesc, stripesDesc, missingDesc, homelessDesc,
+	writtenDesc, brokenDesc, booksDesc, differDesc, waitingDesc, freeDesc, reserveDesc, readOnlyDesc, expiryDesc,
+	entriesDesc, clockDesc, commandsDesc, refusalsDesc, expiredDesc, missedDesc, stripesDesc, missingDesc, homelessDesc,
 	workDesc, leasesDesc, oldestDesc, nodesDesc, downDesc, onlineDesc, seatsDesc, slotsDesc, upgradingDesc, costDesc}
 
 // Describe tells which metrics there are.
