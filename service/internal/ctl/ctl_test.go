@@ -177,7 +177,7 @@ func TestEachCommandHasItsStatusAndWords(t *testing.T) {
 		{"call p0", 2, nil, "takes another number of words"},
 		{"books p0", 2, nil, "takes another number of words"},
 		{"books -o xml", 2, nil, "-o takes text or json"},
-		{"books --servers x", 2, nil, "not defined: -servers"},
+		{"books --servers x", 2, nil, "there is no option --servers; there is --server"},
 		{"call p0 tick --session 9", 2, nil, "--session is 1 to 8"},
 		{"books --cert x", 2, nil, "--cert and --key come together"},
 		{"books --server ftp://h1", 2, nil, "--server: a server is http://HOST:PORT"},
