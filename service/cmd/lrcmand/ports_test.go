@@ -6,6 +6,7 @@ import (
 	"io"
 	"net/http"
 	"os"
+	"os/signal"
 	"path/filepath"
 	"strings"
 	"sync"
@@ -192,6 +193,33 @@ func TestTokensAndCertificatesAreReadAnew(t *testing.T) {
 	if got := ask(next, "other", ""); got != 200 {
 		t.Errorf("after a rotation: %d", got)
 	}
+}
+
+// SIGHUP ends no member that is still starting, as one does that waits for others.
+func TestAMemberThatStartsReadsAnew(t *testing.T) {
+	signals := make(chan os.Signal, 1)
+	signal.Notify(signals, syscall.SIGHUP) // (else it would end the tests)
+	defer signal.Stop(signals)
+	address, first, other := testports.Free(t), testports.Free(t), testports.Free(t)
+	members := "1=" + first + "/" + address + ",2=" + other + "/127.0.0.1:1"
+	o, err := parse([]string{"--data", t.TempDir(), "--listen", address, "--peer", first, "--new", "--members", members})
+	if err != nil {
+		t.Fatal(err)
+	}
+	told := &said{}
+	go run(o, logging.New(told, logging.Config{}))
+	until(t, "it waits", func() bool {
+		answer, err := http.Get("http://" + address + "/health")
+		if err != nil {
+			return false
+		}
+		answer.Body.Close()
+		return answer.StatusCode == 503
+	})
+	if err := syscall.Kill(os.Getpid(), syscall.SIGHUP); err != nil {
+		t.Fatal(err)
+	}
+	until(t, "it reads anew", func() bool { return told.has("were read anew") })
 }
 
 // The certificate is read anew at each handshake.

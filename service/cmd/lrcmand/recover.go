@@ -107,6 +107,9 @@ func (r *repair) restore(cfg raftlog.Config, books *state.State) (string, error)
 	if err != nil {
 		return "", err
 	}
+	if made.IsResumed {
+		return resumedWords, nil
+	}
 	return fmt.Sprintf("member %d is a new group of its own, with all that the backup has: up to entry %d of its group, whose members "+
 		"were %s.\nWhat they told behind entry %d is not in it. Folders of that group are not taken into this one.", made.Self.ID, made.Last,
 		listOf(made.Others), made.Last), nil
@@ -118,7 +121,7 @@ func (r *repair) recover(cfg raftlog.Config, books *state.State) (string, error)
 		return "", err
 	}
 	if made.IsResumed {
-		return "what was cut off before is finished: the member of this folder is a new group of its own", nil
+		return resumedWords, nil
 	}
 	others := "It had no other member."
 	if len(made.Others) > 0 {
@@ -131,6 +134,8 @@ func (r *repair) recover(cfg raftlog.Config, books *state.State) (string, error)
 		"they are lost.\nWhat was in the folder is kept there, under names that end with %s. %s", made.Self.ID, made.Last,
 		made.Commit, made.Last-made.Commit, made.Last, made.Beside, others), nil
 }
+
+const resumedWords = "what was cut off before is finished: the member of this folder is a new group of its own"
 
 // listOf are the numbers of members.
 func listOf(members []engine.Member) string {

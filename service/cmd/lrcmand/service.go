@@ -36,6 +36,7 @@ type service struct {
 	server     *http.Server
 	watch      *http.Server // of health and metrics alone
 	disk       *disk.Watch
+	replica    *replica.Replica
 	stop       context.CancelFunc // of the replica
 }
 
@@ -50,16 +51,20 @@ func startService(o *options, logger *logging.Logger) (*service, int) {
 		logger.Error(err.Error())
 		return nil, statusUsage
 	}
+	ctx, stop := context.WithCancel(context.Background())
+	ports.rereadAtSignal(ctx, o, logger) // (a start may wait for others)
 	early := ports.serveEarly(shutGate(starts))
 	knobs := readKnobs()
 	books, cfg := state.NewWith(knobs.state), o.config(logger)
 	cfg.Knobs, cfg.IsFull = knobs.raftlog, func() bool { return disk.IsShort(o.data, o.diskReserve) }
 	node, err := raftlog.Start(cfg, books)
 	if err != nil {
+		stop()
 		logger.Error(err.Error())
 		return nil, statusOf(err)
 	}
 	s := newService(o, logger, node, books, knobs.replica, ports)
+	s.run(ctx, stop)
 	go serve(s.server, ports.clients.last(), ports.tls(), logger)
 	if ports.watch != nil {
 		go serve(s.watch, ports.watch.last(), nil, logger)
@@ -95,6 +100,7 @@ func newService(o *options, logger *logging.Logger, node engine.Engine, books *s
 	s.disk = disk.New(disk.Config{Folder: o.data, Reserve: o.diskReserve, Changed: s.diskChanged})
 	r := replica.New(replica.Config{Engine: node, State: books, Timeout: o.timeout, Election: o.election, Tick: o.tickTime(),
 		Compare: o.compareTime(), Log: logger, MayChange: s.disk.MayChange, Knobs: knobs})
+	s.replica = r
 	s.monitoring = newMonitoring(node, books, s.sources(r))
 	s.monitoring.metrics.ConnectionsOf(ports.connections.Counts)
 	s.api = httpapi.New(httpapi.Config{Engine: node, State: books, Replica: r, Rights: o.rights, Hosts: o.allHosts(node), Rates: o.rates(),
@@ -103,12 +109,14 @@ func newService(o *options, logger *logging.Logger, node engine.Engine, books *s
 		Watchers: ports.watchers, Log: logger})
 	s.gate, s.server, s.watch = &gate{}, s.api.Server(), s.api.WatchServer()
 	s.server.Handler, s.watch.Handler = s.gate.before(s.server.Handler), s.gate.before(s.watch.Handler)
-	ctx, stop := context.WithCancel(context.Background())
-	s.stop = stop
-	go r.Run(ctx)
-	go s.disk.Run(ctx)
-	ports.rereadAtSignal(ctx, o, logger)
 	return s
+}
+
+// run does what a member does beside answering, until the context ends.
+func (s *service) run(ctx context.Context, stop context.CancelFunc) {
+	s.stop = stop
+	go s.replica.Run(ctx)
+	go s.disk.Run(ctx)
 }
 
 // sources are what the metrics of this member are made of, beside its group and its books.

@@ -26,6 +26,9 @@ type Machine interface {
 	// Verify reads what such a function wrote to its end, and changes nothing. The error wraps ErrDamaged if the bytes are not
 	// those that were written.
 	Verify(io.Reader) error
+	// BeginAgain is called where a new group goes on with what is here, before its log begins behind an index that no entry has
+	// had. What the old group told behind this may be lost: no place of the new group may be taken for one of that.
+	BeginAgain(index uint64)
 }
 
 // MostID is the greatest number of a member. (Numbers of proposals have 16 bits for it)

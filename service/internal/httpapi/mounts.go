@@ -25,14 +25,19 @@ func (m Mount) route() Route {
 
 // Refuse answers a request of a mount with an error.
 func Refuse(w http.ResponseWriter, status int, words string) {
-	fail := failureOf(&failure{Status: status, Words: words})
+	RefuseFor(w, &failure{Status: status, Words: words})
+}
+
+// RefuseFor answers a request of a mount with the failure that an error is.
+func RefuseFor(w http.ResponseWriter, err error) {
+	fail := failureOf(err)
 	text, err := json.Marshal(fail)
 	if err != nil {
 		text = nil // (it can't be: words alone are in it)
 	}
 	fail.setHeaders(w.Header())
 	w.Header().Set("Content-Type", "application/json")
-	w.WriteHeader(status)
+	w.WriteHeader(fail.Status)
 	w.Write(append(text, '\n')) // (the client may be gone)
 }
 

@@ -10,7 +10,6 @@ import (
 	_ "embed" // for the page
 	"encoding/base64"
 	"encoding/json"
-	"errors"
 	"fmt"
 	"net/http"
 	"sort"
@@ -21,7 +20,6 @@ import (
 
 	"lrcman/service/internal/engine"
 	"lrcman/service/internal/httpapi"
-	"lrcman/service/internal/state"
 	"lrcman/service/internal/survey"
 )
 
@@ -218,11 +216,8 @@ func (p *Page) Events(w http.ResponseWriter, r *http.Request) {
 	}
 	scope := httpapi.ScopeOf(r)
 	text, err := p.text(name, scope)
-	if errors.Is(err, state.ErrNoBook) {
-		httpapi.Refuse(w, http.StatusNotFound, "there is no book "+name)
-		return
-	} else if err != nil {
-		httpapi.Refuse(w, http.StatusInternalServerError, err.Error())
+	if err != nil {
+		httpapi.RefuseFor(w, err)
 		return
 	}
 	w.Header().Set("Content-Type", "text/event-stream")

@@ -13,6 +13,7 @@ import (
 
 	"lrcman/service/internal/engine"
 	"lrcman/service/internal/httpapi"
+	"lrcman/service/internal/state"
 	"lrcman/service/internal/survey"
 	"lrcman/service/internal/survey/recorded"
 )
@@ -201,6 +202,24 @@ func TestAnEventComesOnlyAfterAChange(t *testing.T) {
 	}
 	if waited := time.Since(begin); waited < 2400*time.Millisecond || waited > time.Minute {
 		t.Errorf("it came after %v", waited)
+	}
+}
+
+// differing are books of which this member has none that it may show.
+type differing struct{ recorded.Books }
+
+func (differing) Look(string, func(survey.View) error) error { return state.ErrDiffers }
+
+func TestABookThatDiffersIsNotShown(t *testing.T) {
+	server := serve(t, pageOf(differing{load(t, "quiet")}))
+	answer, err := http.Get(server.URL + "/events?book=quiet")
+	if err != nil {
+		t.Fatal(err)
+	}
+	defer answer.Body.Close()
+	text, err := io.ReadAll(answer.Body)
+	if err != nil || answer.StatusCode != 503 || !strings.Contains(string(text), `"code":"differs"`) {
+		t.Errorf("%d %s, %v", answer.StatusCode, text, err)
 	}
 }
 

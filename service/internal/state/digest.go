@@ -18,15 +18,15 @@ type digest struct {
 	at       Stamp
 	sum      [32]byte
 	reports  map[uint64]bool // by member: whether it found the same
-	isBroken bool            // more members found something else, now or at an earlier digest
+	isBroken bool            // more members found something else at an earlier digest
 }
 
-// differs tells whether more members found something else than found the same. This one agrees with itself.
-func (d *digest) differs() bool { return d != nil && d.isBroken }
-
-// note counts what a member found.
-func (d *digest) note(member uint64, isSame bool) {
-	d.reports[member] = isSame
+// differs tells whether more members found something else than found the same, now or earlier. This one agrees with itself. It may
+// be so for a moment, until those have reported who are alike.
+func (d *digest) differs() bool {
+	if d == nil {
+		return false
+	}
 	same, other := 0, 0
 	for _, it := range d.reports {
 		if it {
@@ -38,7 +38,7 @@ func (d *digest) note(member uint64, isSame bool) {
 	if same == 0 {
 		same = 1
 	}
-	d.isBroken = d.isBroken || other > same
+	return d.isBroken || other > same
 }
 
 // digest takes the checksum of a book: of its image, where it stands, its keys and its holders.
@@ -67,7 +67,7 @@ func (s *State) report(item *Item) (Answer, error) {
 		return reject(NoBook, "there is no book "+item.Book), nil
 	}
 	if d := s.digests[item.Book]; d != nil && d.at == item.Digest {
-		d.note(item.Member, d.sum == item.Sum)
+		d.reports[item.Member] = d.sum == item.Sum
 	}
 	return Answer{}, nil
 }

@@ -103,6 +103,20 @@ func TestAMemberThatDiffersSaysSo(t *testing.T) {
 	}
 }
 
+// The reports of members that are not what most are may come first.
+func TestThoseWhoDifferMayReportFirst(t *testing.T) {
+	p := newPlayer(t)
+	d := p.digested()
+	other := d
+	other.Sum[7]++
+	for member, it := range []BookDigest{other, other, d, d, d} {
+		p.reports(uint64(member), it)
+	}
+	p.differs(false)
+	p.digested()
+	p.differs(false)
+}
+
 func TestADigestIsOfABookThatIsThere(t *testing.T) {
 	p := newPlayer(t)
 	p.rejected(p.item(&Item{Action: Digest, Book: "p9"}), NoBook, "there is no book p9")

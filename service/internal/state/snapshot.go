@@ -37,6 +37,18 @@ func (s *State) Restore(from io.Reader) error {
 	return nil
 }
 
+// BeginAgain opens each book again, at an index that no item has had: what a client saw in the old group, and is lost, is then
+// never where a book stands. It is called between two entries.
+func (s *State) BeginAgain(index uint64) {
+	s.begin(index)
+	for i, name := range s.Names() { // (no more than an entry may have items)
+		e, at := s.find(name), Stamp{index, uint32(i)}
+		e.mu.Lock()
+		e.opens, e.seen = at.Number(), at
+		e.mu.Unlock()
+	}
+}
+
 // Verify reads a snapshot to its end, and changes nothing. The error wraps engine.ErrDamaged if it is not as it was written.
 func (s *State) Verify(from io.Reader) error {
 	_, err := s.read(from, func(*bookEntry, []byte) error { return nil })

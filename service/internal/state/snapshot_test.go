@@ -181,6 +181,43 @@ func TestASnapshotIsGivenUpWhereAnotherTakesItsPlace(t *testing.T) {
 }
 
 // What is read of a record is written as the same record, or it is not read.
+// A new group that goes on with the books of one that is lost may lack entries that this one told. Where a client saw a book then,
+// no book of the new group stands.
+func TestPlacesOfANewGroupAreNoneOfThoseBefore(t *testing.T) {
+	p := newPlayer(t)
+	p.item(&Item{Action: Create, Book: "p1", Nodes: twenty})
+	p.keyed("k", "tick")
+	lost := p.restored(p.snapshot())
+	lost.call("place 3")
+	seen := Position{2, opening(1)}
+	q := p.restored(p.snapshot())
+	q.index = 1 << 33
+	q.s.BeginAgain(q.index)
+	q = q.restored(q.snapshot())
+	if answer := q.keyed("k", "tick"); !answer.IsAgain || answer.Made != 1 {
+		t.Errorf("%+v", answer)
+	}
+	q.expect(q.call("tick"), 2, "ticked 2 0")
+	item := call(t, "tick")
+	item.At = &seen
+	q.rejected(q.item(item), Moved, "the book stands at 2")
+	opens := map[uint64]bool{}
+	for _, name := range q.s.Names() {
+		err := q.s.Look(name, func(view *View) error {
+			opens[view.Position.Opens] = true
+			return nil
+		})
+		if err != nil {
+			t.Error(err)
+		}
+	}
+	if len(opens) != 2 || !opens[opening(1<<33)] {
+		t.Errorf("the openings are %v", opens)
+	}
+	item.At = &Position{2, opening(1 << 33)}
+	q.expect(q.item(item), 3, "ticked 3 0")
+}
+
 func FuzzRecord(f *testing.F) {
 	p := &player{s: New(), t: &testing.T{}}
 	p.item(&Item{Action: Create, Book: "p0", Nodes: nodesOf(2, 1), Key: "c"})

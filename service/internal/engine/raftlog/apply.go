@@ -102,6 +102,9 @@ func (n *Node) handOver(entries []raftpb.Entry) bool {
 
 // apply is called by the applier, as all that drives the machine.
 func (n *Node) apply(entries []raftpb.Entry) {
+	if n.isLeftOut {
+		return // the machine lacks what stands before them: the next start applies them
+	}
 	for i := range entries {
 		entry := &entries[i]
 		if entry.Index <= atomic.LoadUint64(&n.received) {
@@ -118,8 +121,11 @@ func (n *Node) apply(entries []raftpb.Entry) {
 
 // restoreReceived begins in a snapshot of the leader that is saved.
 func (n *Node) restoreReceived(m raftpb.SnapshotMetadata) {
-	if m.Index < atomic.LoadUint64(&n.received) || n.isEnding() {
-		return // a later one waits behind it; or the next start begins in it
+	if m.Index < atomic.LoadUint64(&n.received) {
+		return // a later one waits behind it
+	} else if n.isEnding() {
+		n.isLeftOut = true // the next start begins in it
+		return
 	}
 	begun := time.Now()
 	_, err := n.restore(m)

@@ -310,3 +310,28 @@ func TestAFewMebibytesOfTheLogStayInMemory(t *testing.T) {
 		t.Error("there is no snapshot")
 	}
 }
+
+// A member that ends does not restore what it has got. Then it may not go on from its old books, nor write them as a snapshot.
+func TestNothingIsAppliedBehindASnapshotThatIsNotRestored(t *testing.T) {
+	t.Parallel()
+	cfg, _ := configOf(t, t.TempDir(), alone, alone)
+	machine := &list{}
+	n := newNode(cfg, machine)
+	var err error
+	if n.numbers, err = newNumbers(1); err != nil {
+		t.Fatal(err)
+	}
+	close(n.stop)
+	n.received = 100
+	id, told := n.wait()
+	n.restoreReceived(raftpb.SnapshotMetadata{Index: 100, Term: 1})
+	n.apply([]raftpb.Entry{{Index: 101, Term: 1, Type: raftpb.EntryNormal, Data: withID(id, []byte("entry 1"))}})
+	expect(t, machine, nil)
+	if n.Status().Applied != 0 || len(told) != 0 {
+		t.Errorf("%d is applied, and %d are told", n.Status().Applied, len(told))
+	}
+	n.freeze(101, raftpb.ConfState{}, head{})
+	if err := <-n.written; err != errReplaced {
+		t.Errorf("a snapshot is written: %v", err)
+	}
+}

@@ -6,6 +6,7 @@ import (
 	"fmt"
 	"io"
 	"net/http"
+	"strings"
 	"sync/atomic"
 	"time"
 
@@ -195,8 +196,9 @@ func (n *Node) endRefused(found verdict) {
 }
 
 // isVouchedFor asks the members that this one knows about one that it does not: it may be behind, and the other one was added
-// meanwhile.
-func (n *Node) isVouchedFor(s start) bool {
+// meanwhile. Where none of these answers, all of them may have been replaced: then it is enough that the other one, which says that
+// it is at an address, knows this one.
+func (n *Node) isVouchedFor(s start, address string) bool {
 	n.mu.Lock()
 	isAsked := s.isSame(n.vouched[s.Member])
 	isDue := time.Since(n.vouchedAt) >= vouchingTime
@@ -207,16 +209,35 @@ func (n *Node) isVouchedFor(s start) bool {
 	if isAsked || !isDue {
 		return isAsked
 	}
+	isMember, hasAnswer := n.askAbout(s)
+	if !isMember && (hasAnswer || !n.knowsThis(s.Member, address)) {
+		return false
+	}
+	n.mu.Lock()
+	defer n.mu.Unlock()
+	n.vouched[s.Member] = s
+	return true
+}
+
+// askAbout asks the members that this one knows about a start, and tells whether one knows it, and whether one has answered.
+func (n *Node) askAbout(s start) (is, hasAnswer bool) {
 	for _, member := range n.others() {
 		var it acquaintance
 		if err := n.ask(member.Peer, knownPath, s.query(0), n.identity.Group, &it); err != nil || it.Member != member.ID {
 			continue
-		} else if it.Verdict == isKnown {
-			n.mu.Lock()
-			n.vouched[s.Member] = s
-			n.mu.Unlock()
-			return true
+		} else if hasAnswer = true; it.Verdict == isKnown {
+			return true, true
 		}
 	}
-	return false
+	return false, hasAnswer
+}
+
+// knowsThis tells whether a member of the group answers at an address, and knows this one.
+func (n *Node) knowsThis(id uint64, address string) bool {
+	if !n.isAddressOf(address) {
+		return false
+	}
+	var it acquaintance
+	err := n.ask(strings.TrimPrefix(address, n.scheme()+"://"), knownPath, n.ownStart().query(0), n.identity.Group, &it)
+	return err == nil && it.Member == id && it.Verdict == isKnown
 }

@@ -101,6 +101,8 @@ type Node struct {
 	number           uint64 // of this start
 	began            reach  // of this start
 
+	isLeftOut bool // of the applier: this member ends, and a snapshot was not restored
+
 	// What follows is of the loop.
 	conf      raftpb.ConfState
 	isLeader  bool

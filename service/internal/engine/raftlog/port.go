@@ -242,7 +242,7 @@ func (p *port) checkSender(r *http.Request) (uint64, *refusal) {
 		return 0, &refusal{http.StatusServiceUnavailable, err.Error()}
 	case found == isRemoved:
 		return 0, &refusal{http.StatusGone, "this member was removed"} // (rafthttp takes this for a removal)
-	case found == isStrange && n.isVouchedFor(s):
+	case found == isStrange && n.isVouchedFor(s, r.Header.Get(urlsHeader)):
 		p.takeAddress(r, s.Number)
 		return s.Member, nil
 	case found == isStrange:

@@ -504,6 +504,61 @@ func TestALeaderThatAMemberDoesNotKnowIsHeard(t *testing.T) {
 	g.alike(texts(1, 5))
 }
 
+// A member that was away while all others were replaced knows nobody who could vouch for the new ones. These know the member.
+func TestAMemberFindsAGroupWhoseOthersWereReplaced(t *testing.T) {
+	t.Parallel()
+	g := groupOf(t, 3)
+	propose(t, g.nodes[1], "entry 1")
+	g.alike(texts(1, 1))
+	away := g.other(g.leader())
+	g.close(away)
+	before := g.up()
+	g.add(4)
+	g.add(5)
+	for g.leader() != 4 {
+		g.heard(func(ctx context.Context, n *Node) (bool, error) { return false, n.Lead(ctx, 4) })
+	}
+	for _, id := range before {
+		g.must(removing(id))
+		g.close(id)
+	}
+	proposeAll(t, g.nodes[g.leader()], texts(2, 5))
+	g.start(away)
+	g.alike(texts(1, 5))
+}
+
+// Where one of those answers that a member knows, a stranger can't speak for itself.
+func TestAStrangerDoesNotVouchForItself(t *testing.T) {
+	t.Parallel()
+	g := groupOf(t, 3)
+	propose(t, g.nodes[1], "entry 1")
+	stranger := httptest.NewServer(http.HandlerFunc(func(w http.ResponseWriter, r *http.Request) {
+		answer(w, acquaintance{Member: 7, Name: "seven", Verdict: isKnown})
+	}))
+	defer stranger.Close()
+	n := g.nodes[1]
+	it := start{Member: 7, Folder: 77, Starts: 1, Number: 777}
+	g.close(g.other(1))
+	if n.isVouchedFor(it, stranger.URL) {
+		t.Error("it does, beside a member that answers")
+	}
+	g.close(g.other(1))
+	for _, address := range []string{"", "http://127.0.0.1:1", stranger.URL + "/raft", "https" + strings.TrimPrefix(stranger.URL, "http")} {
+		time.Sleep(vouchingTime)
+		if n.isVouchedFor(it, address) {
+			t.Errorf("it does at %q", address)
+		}
+	}
+	time.Sleep(vouchingTime)
+	if other := (start{Member: 8, Folder: 77, Starts: 1, Number: 777}); n.isVouchedFor(other, stranger.URL) {
+		t.Error("it does for another number")
+	}
+	time.Sleep(vouchingTime)
+	if !n.isVouchedFor(it, stranger.URL) {
+		t.Error("nobody else answers, and it is not asked")
+	}
+}
+
 func TestTheWordsOfARequestAreReadAsTheyAreWritten(t *testing.T) {
 	s := start{Member: 3, Folder: 1<<64 - 1, Starts: 7, Number: 9, reach: reach{Term: 4, Last: 5}}
 	r, err := http.NewRequest(http.MethodGet, "http://h:1?"+s.query(11)+"/raft/probing", nil)

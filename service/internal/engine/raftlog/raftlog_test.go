@@ -44,6 +44,7 @@ type list struct {
 	beforeApply   func(payload string)
 	beforeRestore func()
 	forgets       bool // the entries, so that it stays small
+	again         int  // how often it began again
 }
 
 func (l *list) Apply(index uint64, payload []byte) (interface{}, error) {
@@ -101,6 +102,12 @@ type content struct {
 func (l *list) Verify(r io.Reader) error {
 	_, err := readContent(r)
 	return err
+}
+
+func (l *list) BeginAgain(index uint64) {
+	l.mu.Lock()
+	defer l.mu.Unlock()
+	l.index, l.again = index, l.again+1
 }
 
 func readContent(r io.Reader) (found content, err error) {

@@ -45,7 +45,13 @@ func Restore(cfg Config, machine engine.Machine, from io.Reader) (made Recovered
 	}
 	n := newNode(cfg, machine)
 	defer n.release()
-	if err := n.takeEmpty(); err != nil {
+	if n.lock, err = lockFolder(cfg.Dir); err != nil {
+		return made, err
+	}
+	if whole := filepath.Join(cfg.Dir, finished+besideRestore); exists(whole) {
+		return Recovered{IsResumed: true}, n.finish(whole)
+	}
+	if err := n.checkEmpty(); err != nil {
 		return made, err
 	}
 	state, err := readHead(r)
@@ -64,14 +70,11 @@ func Restore(cfg Config, machine engine.Machine, from io.Reader) (made Recovered
 	}
 	made = Recovered{Self: cfg.Self, Last: head.Index, Commit: head.Index, Others: n.sorted()}
 	begins := beginning{self: cfg.Self, index: head.Index + gap, term: head.Term + 1, changes: n.changes + 1, name: head.Name}
-	return made, n.beginAgain(begins, before+"restore")
+	return made, n.beginAgain(begins, besideRestore)
 }
 
-// takeEmpty keeps every other process out of a folder that has nothing else in it.
-func (n *Node) takeEmpty() (err error) {
-	if n.lock, err = lockFolder(n.cfg.Dir); err != nil {
-		return err
-	}
+// checkEmpty refuses a folder that has something in it.
+func (n *Node) checkEmpty() error {
 	found, err := os.ReadDir(n.cfg.Dir)
 	if err != nil {
 		return err
@@ -94,7 +97,7 @@ func Recover(cfg Config, machine engine.Machine) (made Recovered, err error) {
 	}
 	if whole, err := n.findFinished(); err != nil || whole != "" {
 		if err == nil {
-			err = n.putInPlace(whole)
+			err = n.finish(whole)
 		}
 		return Recovered{IsResumed: true}, err
 	}
@@ -111,7 +114,9 @@ func Recover(cfg Config, machine engine.Machine) (made Recovered, err error) {
 	}
 	self.Learner, self.Promote = false, false
 	made.Self, made.Others = self, n.others()
-	made.Beside = before + "recover-" + time.Now().UTC().Format("20060102T150405Z")
+	if made.Beside, err = n.besideNow(); err != nil {
+		return made, err
+	}
 	begins := beginning{self: self, removed: n.head().Removed, index: made.Last + gap, term: atomic.LoadUint64(&n.term) + 1,
 		changes: n.changes + 1, name: it.Name}
 	for _, other := range made.Others { // their folders are of the old group
@@ -120,6 +125,16 @@ func Recover(cfg Config, machine engine.Machine) (made Recovered, err error) {
 	n.wal.Close() // (it is renamed)
 	n.wal = nil
 	return made, n.beginAgain(begins, made.Beside)
+}
+
+// besideNow is how the names of what is replaced now are to end. None ends so yet: one recovery may follow another at once.
+func (n *Node) besideNow() (string, error) {
+	for at := time.Now().UTC(); ; at = at.Add(time.Second) {
+		beside := before + "recover-" + at.Format("20060102T150405Z")
+		if found, err := filepath.Glob(filepath.Join(n.cfg.Dir, "*"+beside)); err != nil || len(found) == 0 {
+			return beside, err
+		}
+	}
 }
 
 // applyAll applies all entries that the log has behind its snapshot.
@@ -195,6 +210,8 @@ const (
 	unfinished = "unfinished"
 	// So the names begin that what is replaced gets.
 	before = ".before-"
+	// A restore replaces nothing.
+	besideRestore = before + "restore"
 )
 
 // checkFinished refuses a folder in which something is to be put in place yet.
@@ -234,6 +251,11 @@ func (n *Node) beginAgain(begins beginning, beside string) error {
 	if err := n.syncFolder(n.cfg.Dir); err != nil {
 		return err
 	}
+	return n.finish(whole)
+}
+
+// finish puts what was built in place, for good.
+func (n *Node) finish(whole string) error {
 	if err := n.putInPlace(whole); err != nil {
 		return err
 	}
@@ -251,6 +273,7 @@ func (n *Node) build(folder string, begins beginning) error {
 		return err
 	}
 	begins.self.Folder = it.Folder
+	n.machine.BeginAgain(begins.index)
 	to := &Node{cfg: n.cfg, zap: n.zap}
 	to.cfg.Dir = folder
 	if err := os.MkdirAll(to.snapFolder(), 0o700); err != nil {

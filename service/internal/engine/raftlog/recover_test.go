@@ -419,3 +419,90 @@ func TestARecoveryThatIsCutOffGoesOn(t *testing.T) {
 		t.Errorf("%d went on with what was there", resumed)
 	}
 }
+
+// A folder in which a restore was cut off is refused, wherever that was, and the same command goes on.
+func TestARestoreThatIsCutOffGoesOn(t *testing.T) {
+	t.Parallel()
+	source, _ := configOf(t, t.TempDir(), alone, alone)
+	n, _ := begin(t, source)
+	proposeAll(t, n, texts(1, 5))
+	text := backupOf(t, n)
+	resumed := 0
+	for syncs := 0; syncs < 50; syncs++ {
+		cfg, _ := configOf(t, filepath.Join(t.TempDir(), "new"), alone, alone)
+		count := 0
+		cut := cfg
+		cut.Knobs.SyncFolder = func(path string) error {
+			if count++; count > syncs {
+				return errors.New("cut off")
+			}
+			return syncFolder(path)
+		}
+		if _, err := Restore(cut, &list{}, bytes.NewReader(text)); err == nil {
+			break // (it is over before)
+		}
+		if len(glob(t, cfg.Dir, finished+"*")) > 0 {
+			if _, err := Start(cfg, &list{}); err == nil || !strings.Contains(err.Error(), "was cut off in the folder") {
+				t.Fatalf("after %d: %v", syncs, err)
+			}
+		} else if exists(filepath.Join(cfg.Dir, "wal")) {
+			break // (all is in place)
+		}
+		made, err := Restore(cfg, &list{}, bytes.NewReader(text))
+		if err != nil {
+			t.Fatalf("after %d: %v", syncs, err)
+		}
+		if made.IsResumed {
+			resumed++
+		}
+		n, machine := begin(t, cfg)
+		barrier(t, n)
+		expect(t, machine, texts(1, 5))
+		n.Close()
+	}
+	if resumed < 3 {
+		t.Errorf("%d went on with what was there", resumed)
+	}
+}
+
+// Each recovery of a folder keeps what was in it under names of its own, however soon it comes behind the one before.
+func TestAFolderIsRecoveredAgainAtOnce(t *testing.T) {
+	t.Parallel()
+	cfg, _, all := withSnapshots(t)
+	kept := map[string]bool{}
+	for i := 0; i < 4; i++ {
+		made, err := Recover(recovering(cfg), &list{})
+		if err != nil || kept[made.Beside] {
+			t.Fatalf("%d: %+v, %v", i, made, err)
+		}
+		kept[made.Beside] = true
+	}
+	for beside := range kept {
+		if !exists(filepath.Join(cfg.Dir, "wal"+beside)) {
+			t.Errorf("wal%s is gone: %v", beside, namesIn(t, cfg.Dir))
+		}
+	}
+	n, machine := begin(t, cfg)
+	barrier(t, n)
+	expect(t, machine, all)
+}
+
+// The machine hears once from where a new group goes on, and writes its first snapshot behind that.
+func TestTheMachineOfANewGroupBeginsAgain(t *testing.T) {
+	t.Parallel()
+	source, _ := configOf(t, t.TempDir(), alone, alone)
+	n, _ := begin(t, source)
+	proposeAll(t, n, texts(1, 5))
+	text := backupOf(t, n)
+	n.Close()
+	cfg, _ := configOf(t, filepath.Join(t.TempDir(), "new"), alone, alone)
+	for what, again := range map[string]func(*list) (Recovered, error){
+		"restore": func(m *list) (Recovered, error) { return Restore(cfg, m, bytes.NewReader(text)) },
+		"recover": func(m *list) (Recovered, error) { return Recover(recovering(source), m) },
+	} {
+		machine := &list{}
+		if made, err := again(machine); err != nil || machine.again != 1 || machine.index != made.Last+gap {
+			t.Errorf("%s: %d times, at %d, %+v, %v", what, machine.again, machine.index, made, err)
+		}
+	}
+}
