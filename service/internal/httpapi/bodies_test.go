@@ -64,6 +64,8 @@ func TestRoomIsGivenBack(t *testing.T) {
 	c := s.dialWith("POST /books/p0/call HTTP/1.1\r\nHost: x\r\nContent-Type: application/json\r\nContent-Length: 100\r\n\r\n{")
 	s.status(c, 408)
 	s.dialWith("POST /books/p0/call HTTP/1.1\r\nHost: x\r\nContent-Type: application/json\r\nContent-Length: 100\r\n\r\n{").Close()
+	wait(t, "all is given back", func() bool { return s.roomTaken() == 0 })
+	s = newService(t, nil) // (its clients have all the time)
 	var all sync.WaitGroup
 	for i := 0; i < 8; i++ {
 		all.Add(1)

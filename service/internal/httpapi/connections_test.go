@@ -170,6 +170,19 @@ func TestAnAddressHasHalfOfThemWhereOthersWait(t *testing.T) {
 	if it := admit("10.0.0.3:1"); it == nil || isOpen(first) {
 		t.Error("one without any does not get the one that waits")
 	}
+	s = NewConnections(8)
+	first = admit("10.0.0.2:1")
+	for i := 0; i < 5; i++ {
+		greedy[i] = admit(fmt.Sprintf("10.0.0.1:%d", i+1))
+	}
+	greedy[0].Close()
+	greedy[1].Close()
+	for i := 0; i < 5; i++ {
+		admit(fmt.Sprintf("10.0.1.%d:1", i+1))
+	}
+	if isOpen(first) || !isOpen(greedy[2]) {
+		t.Error("one that has no more than half any more is still taken from first")
+	}
 	s = NewConnections(2 * keptForOthers)
 	for i := 0; i < 3*keptForOthers; i++ { // (of which some are refused)
 		if it := admit("10.0.0.1:1"); it != nil {

@@ -73,6 +73,12 @@ func TestAPageOfElsewhereCommandsNothing(t *testing.T) {
 			}
 		}
 	}
+	for _, second := range []string{"http://evil.example", own} { // (no browser sends two)
+		answer, text := s.ask("GET", "/books", "", func(r *http.Request) { r.Header["Origin"] = []string{own, second} })
+		if answer.StatusCode != 403 {
+			t.Errorf("two origins: %d %s", answer.StatusCode, text)
+		}
+	}
 }
 
 // A page may send a POST without being asked whether it may, if it has no type or a plain one.

@@ -232,6 +232,31 @@ func TestWhatWasUnknownStaysUnknown(t *testing.T) {
 	}
 }
 
+// Where there is no leader, whoever waits is told that nothing was made: but not of an item that was proposed before.
+func TestWhatMayHaveBeenMadeIsNotRefused(t *testing.T) {
+	q := newQueue(10)
+	proposed, fresh := newPending(call("tick", "a"), true), newPending(call("tick", "b"), true)
+	q.add(proposed)
+	q.fail(q.take(), engine.ErrOutcomeUnknown)
+	q.add(fresh)
+	q.refuse(engine.ErrNoLeader)
+	select {
+	case it := <-fresh.told:
+		if it.err != engine.ErrNoLeader {
+			t.Error(it.err)
+		}
+	default:
+		t.Error("one that was not proposed waits on")
+	}
+	if len(proposed.told) != 0 || q.count() != 1 {
+		t.Errorf("one that may have been made does not wait on: %d wait", q.count())
+	}
+	var unknown *Unknown
+	if _, err := q.leave(proposed); !errors.As(err, &unknown) || !unknown.HasKey {
+		t.Error(err)
+	}
+}
+
 func TestWhatWasNotProposedIsTellable(t *testing.T) {
 	m := newMember(t, nil).run()
 	m.fated(busy)

@@ -468,6 +468,22 @@ func (g *group) hearsCommit(leader uint64) {
 	}
 }
 
+// One that asked the others as it ended may hear of the next start of its folder: it leaves that alone.
+func TestAMemberThatHasEndedMarksNothing(t *testing.T) {
+	t.Parallel()
+	cfg, _ := configOf(t, t.TempDir(), alone, alone)
+	n, _ := begin(t, cfg)
+	propose(t, n, "entry 1")
+	n.Close()
+	n.endRefused(isOld)
+	if err := n.Err(); err != nil {
+		t.Error(err)
+	}
+	n, machine := begin(t, cfg)
+	barrier(t, n)
+	expect(t, machine, texts(1, 1))
+}
+
 // A member that starts again asks the others first: a vote or an acknowledgement of an older copy would count at once.
 func TestAMemberTakesNoPartBeforeItHasAsked(t *testing.T) {
 	t.Parallel()

@@ -189,7 +189,10 @@ func (n *Node) endRefused(found verdict) {
 	}
 	it := n.identity
 	it.Refused = wordsOf(found)
-	if err := it.write(n.cfg.Dir, n.syncFolder); err != nil {
+	err := n.keep(func() error { return it.write(n.cfg.Dir, n.syncFolder) })
+	if err == engine.ErrEnded {
+		return // (it may be the next start of this folder that is known instead)
+	} else if err != nil {
 		n.cfg.Log.Errorf("the folder can't be marked: %v", err)
 	}
 	n.end(lost(it.Refused))

@@ -95,8 +95,8 @@ type Node struct {
 	vouched          map[uint64]start      // of those that others know, and this one does not
 	vouchedAt        time.Time             // when others were asked last about a stranger
 	areStartsUnsaved bool
-	isDoubted        bool // this member takes no part: another one knows another folder or start of it, or was not asked yet
-	savingStarts     sync.Mutex
+	isDoubted        bool       // this member takes no part: another one knows another folder or start of it, or was not asked yet
+	keeping          sync.Mutex // of files beside the log, and of the lock of the folder
 	identity         identity
 	number           uint64 // of this start
 	began            reach  // of this start
@@ -202,8 +202,8 @@ func (n *Node) release() {
 	if n.markFile != nil {
 		n.markFile.Close()
 	}
-	n.savingStarts.Lock()
-	defer n.savingStarts.Unlock()
+	n.keeping.Lock()
+	defer n.keeping.Unlock()
 	if n.lock != nil {
 		n.lock.Close()
 		n.lock = nil

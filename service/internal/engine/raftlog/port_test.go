@@ -431,10 +431,14 @@ func TestOneWithoutTheCertificateOfAMemberIsNotHeard(t *testing.T) {
 			proposeAll(t, g.nodes[1], texts(1, 3))
 			leader := g.leader()
 			h := handOf(t, g.nodes[g.other(leader)], g.nodes[leader])
-			for _, client := range []string{"client", "member-9", "member-1", "of others", "none"} {
+			for _, client := range []string{"client", "member-9", "member-1", "of others", "none", "over TLS 1.1"} {
 				switch client {
 				case "none":
 					h.client = overTLS(t, ours, nil, "")
+				case "over TLS 1.1":
+					h.client = overTLS(t, ours, ours, "member-1")
+					config := h.client.Transport.(*http.Transport).TLSClientConfig
+					config.MinVersion, config.MaxVersion = tls.VersionTLS10, tls.VersionTLS11
 				case "of others":
 					h.client = overTLS(t, ours, others, "member-1")
 				default:
@@ -598,6 +602,25 @@ func TestReachesAreOrdered(t *testing.T) {
 	} {
 		if it.one.isBefore(it.other) != it.is {
 			t.Errorf("%+v", it)
+		}
+	}
+}
+
+// What a member does not have must not count as acknowledged: its folder would be taken for an older copy.
+func TestWhatAMemberRefusesIsNotAcknowledged(t *testing.T) {
+	for _, it := range []struct {
+		m    raftpb.Message
+		want reach
+	}{
+		{raftpb.Message{Type: raftpb.MsgAppResp, Term: 3, Index: 9, Reject: true}, reach{}},
+		{raftpb.Message{Type: raftpb.MsgAppResp, Term: 3, Index: 9}, reach{3, 9}},
+		{raftpb.Message{Type: raftpb.MsgApp, Term: 3, Index: 9, Commit: 7}, reach{3, 7}},
+		{raftpb.Message{Type: raftpb.MsgHeartbeat, Term: 3, Commit: 7}, reach{3, 7}},
+		{raftpb.Message{Type: raftpb.MsgHeartbeatResp, Term: 3, Index: 9, Commit: 7}, reach{}},
+		{raftpb.Message{Type: raftpb.MsgVote, Term: 3, Index: 9}, reach{}},
+	} {
+		if found := reachOf(&it.m); found != it.want {
+			t.Errorf("%v: %+v, and not %+v", it.m, found, it.want)
 		}
 	}
 }

@@ -182,13 +182,23 @@ func beginWith(t *testing.T, cfg Config, machine *list) *Node {
 // long is how long something may take on a busy machine before it counts as never.
 const long = time.Minute
 
-// propose asks until it is told.
+// onTheWay is how long a proposal is waited for that may be lost on its way to the leader, as when members have just begun to speak
+// to each other.
+const onTheWay = 5 * time.Second
+
+// propose asks until it is told. What is taken once, however often it comes, is asked for anew now and then.
 func propose(t *testing.T, n engine.Engine, text string) interface{} {
 	t.Helper()
 	ctx, cancel := context.WithTimeout(context.Background(), long)
 	defer cancel()
+	patience := long
+	if strings.HasPrefix(text, "entry") {
+		patience = onTheWay
+	}
 	for {
-		told, err := n.Propose(ctx, []byte(text))
+		one, cancel := context.WithTimeout(ctx, patience)
+		told, err := n.Propose(one, []byte(text))
+		cancel()
 		if err == nil {
 			return told
 		} else if ctx.Err() != nil {

@@ -273,18 +273,25 @@ func (h heardStart) beside(it heardStart, isThere bool) heardStart {
 
 // saveStarts keeps it for the next start.
 func (n *Node) saveStarts() error {
-	n.savingStarts.Lock()
-	defer n.savingStarts.Unlock()
+	return n.keep(func() error {
+		n.mu.Lock()
+		n.areStartsUnsaved = false
+		n.mu.Unlock()
+		all := n.heardStarts()
+		err := writeChecked(filepath.Join(n.cfg.Dir, startsName), all, n.syncFolder)
+		if err != nil {
+			n.cfg.Log.Errorf("the file %s can't be written: %v", startsName, err)
+		}
+		return err
+	})
+}
+
+// keep writes a file of the folder, unless this member has given the folder back: it may be that of another process by now.
+func (n *Node) keep(write func() error) error {
+	n.keeping.Lock()
+	defer n.keeping.Unlock()
 	if n.lock == nil {
-		return engine.ErrEnded // (the folder may be that of another process)
+		return engine.ErrEnded
 	}
-	n.mu.Lock()
-	n.areStartsUnsaved = false
-	n.mu.Unlock()
-	all := n.heardStarts()
-	err := writeChecked(filepath.Join(n.cfg.Dir, startsName), all, n.syncFolder)
-	if err != nil {
-		n.cfg.Log.Errorf("the file %s can't be written: %v", startsName, err)
-	}
-	return err
+	return write()
 }
