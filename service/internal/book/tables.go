@@ -1,8 +1,6 @@
 package book
 
 import (
-	"bytes"
-	"encoding/json"
 	"errors"
 	"fmt"
 	"math/bits"
@@ -17,15 +15,16 @@ type Table struct {
 	Rows    [][]Cell
 }
 
-// A Cell is a field of a table, which CSV and JSON write otherwise.
+// A Cell is a field of a table, which CSV and JSON write otherwise. (Each is written behind the text before it: a table may have
+// a hundred thousand of them)
 type Cell interface {
-	csv() string
-	json() interface{}
+	appendCSV(text []byte) []byte
+	appendJSON(text []byte) []byte
 }
 
 type (
 	number  uint64
-	word    string
+	word    string // of letters, digits and "_": JSON writes nothing of it otherwise
 	yesNo   bool
 	mask    uint16
 	numbers []uint8
@@ -33,66 +32,80 @@ type (
 	seat    Seat
 )
 
-func (n number) csv() string       { return strconv.FormatUint(uint64(n), 10) }
-func (n number) json() interface{} { return uint64(n) }
-func (w word) csv() string         { return string(w) }
-func (w word) json() interface{}   { return string(w) }
-func (y yesNo) csv() string        { return map[yesNo]string{false: "no", true: "yes"}[y] }
-func (y yesNo) json() interface{}  { return bool(y) }
-func (m mask) csv() string         { return fmt.Sprintf("0x%04x", uint16(m)) }
-func (m mask) json() interface{}   { return m.csv() }
-func (n nothing) csv() string      { return string(n) }
-func (n nothing) json() interface{} {
-	return nil
-}
-func (s seat) csv() string          { return Seat(s).String() }
-func (s seat) json() interface{}    { return Seat(s).String() }
-func (l numbers) json() interface{} { return Numbers(l) }
-func (l numbers) csv() string {
-	words := make([]string, len(l))
-	for i, n := range l {
-		words[i] = strconv.Itoa(int(n))
+func (n number) appendCSV(text []byte) []byte   { return strconv.AppendUint(text, uint64(n), 10) }
+func (n number) appendJSON(text []byte) []byte  { return n.appendCSV(text) }
+func (w word) appendCSV(text []byte) []byte     { return append(text, w...) }
+func (w word) appendJSON(text []byte) []byte    { return append(w.appendCSV(append(text, '"')), '"') }
+func (m mask) appendJSON(text []byte) []byte    { return append(m.appendCSV(append(text, '"')), '"') }
+func (n nothing) appendCSV(text []byte) []byte  { return append(text, n...) }
+func (n nothing) appendJSON(text []byte) []byte { return append(text, "null"...) }
+func (s seat) appendCSV(text []byte) []byte     { return Seat(s).append(text) }
+func (s seat) appendJSON(text []byte) []byte    { return append(s.appendCSV(append(text, '"')), '"') }
+func (y yesNo) appendJSON(text []byte) []byte   { return strconv.AppendBool(text, bool(y)) }
+
+func (y yesNo) appendCSV(text []byte) []byte {
+	if y {
+		return append(text, "yes"...)
 	}
-	return strings.Join(words, " ")
+	return append(text, "no"...)
+}
+
+func (m mask) appendCSV(text []byte) []byte {
+	const digits = "0123456789abcdef"
+	return append(text, '0', 'x', digits[m>>12], digits[m>>8&15], digits[m>>4&15], digits[m&15])
+}
+
+func (l numbers) appendCSV(text []byte) []byte { return l.appendWith(text, ' ') }
+func (l numbers) appendJSON(text []byte) []byte {
+	return append(l.appendWith(append(text, '['), ','), ']')
+}
+
+func (l numbers) appendWith(text []byte, between byte) []byte {
+	for i, n := range l {
+		if i > 0 {
+			text = append(text, between)
+		}
+		text = strconv.AppendUint(text, uint64(n), 10)
+	}
+	return text
 }
 
 // CSV is the table as the program prints it.
 func (t *Table) CSV() []byte {
-	var text bytes.Buffer
-	text.WriteString(strings.Join(t.Columns, ",") + "\n")
+	text := append([]byte(strings.Join(t.Columns, ",")), '\n')
 	for _, row := range t.Rows {
 		for i, cell := range row {
 			if i > 0 {
-				text.WriteByte(',')
+				text = append(text, ',')
 			}
-			text.WriteString(cell.csv())
+			text = cell.appendCSV(text)
 		}
-		text.WriteByte('\n')
+		text = append(text, '\n')
 	}
-	return text.Bytes()
+	return text
 }
 
-// MarshalJSON writes a list with an object for each row, whose fields are the columns.
-func (t *Table) MarshalJSON() ([]byte, error) {
-	var text bytes.Buffer
-	text.WriteByte('[')
+// JSON is a list with an object for each row, whose fields are the columns.
+func (t *Table) JSON() []byte {
+	names := make([]string, len(t.Columns))
+	for i, column := range t.Columns {
+		names[i] = "{,"[min(i, 1):min(i, 1)+1] + strconv.Quote(column) + ":"
+	}
+	text := []byte{'['}
 	for i, row := range t.Rows {
 		if i > 0 {
-			text.WriteByte(',')
+			text = append(text, ',')
 		}
 		for j, cell := range row {
-			value, err := json.Marshal(cell.json())
-			if err != nil {
-				return nil, err
-			}
-			text.WriteByte("{,"[min(j, 1)])
-			fmt.Fprintf(&text, "%q:%s", t.Columns[j], value)
+			text = cell.appendJSON(append(text, names[j]...))
 		}
-		text.WriteByte('}')
+		text = append(text, '}')
 	}
-	text.WriteByte(']')
-	return text.Bytes(), nil
+	return append(text, ']')
 }
+
+// MarshalJSON is JSON.
+func (t *Table) MarshalJSON() ([]byte, error) { return t.JSON(), nil }
 
 func min(a, b int) int {
 	if a < b {
@@ -247,8 +260,8 @@ type placed struct {
 
 func (p *placed) cells() []Cell {
 	row, gone := p.row, homeless(p.row.Code, &p.homes)
-	cells := []Cell{number(row.Stripe), word(row.Code.String()), word(row.Level.Kind.String()), margin(row.Level),
-		mask(row.Missing), membersOf(row.Missing), mask(gone), membersOf(gone)}
+	cells := append(make([]Cell, 0, len(stripeColumns)), number(row.Stripe), word(row.Code.String()), word(row.Level.Kind.String()),
+		margin(row.Level), mask(row.Missing), membersOf(row.Missing), mask(gone), membersOf(gone))
 	for f, home := range p.homes {
 		switch {
 		case f >= row.Code.Fragments():

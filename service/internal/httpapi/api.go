@@ -75,6 +75,7 @@ type API struct {
 	stop    chan struct{}
 	bodies  *room
 	answers *room
+	flights *flights
 	audit   *audit
 }
 
@@ -91,7 +92,7 @@ func New(cfg Config) *API {
 		cfg.Watchers = NewConnections(MostConnections)
 	}
 	a := &API{cfg: cfg, refused: &tally{}, stop: make(chan struct{}), bodies: &room{most: roomOfBodies},
-		answers: &room{most: roomOfAnswers}, audit: newAudit(cfg.Audit)}
+		answers: &room{most: roomOfAnswers}, flights: newFlights(), audit: newAudit(cfg.Audit)}
 	a.routes = a.table()
 	for _, mount := range cfg.Mounts {
 		a.routes = append(a.routes, mount.route())

@@ -1,6 +1,7 @@
 package httpapi
 
 import (
+	"encoding/json"
 	"errors"
 	"fmt"
 	"math"
@@ -17,6 +18,7 @@ import (
 type looks struct {
 	state   *state.State
 	replica *replica.Replica
+	flights *flights
 }
 
 // freshness tells how new a look is.
@@ -28,13 +30,23 @@ type freshness struct {
 
 // begin is called before a look is taken: first of all it waits until this member is up to date, if that is asked for.
 func (l *looks) begin(q *request) (freshness, error) {
-	if q.query.Get("now") == "1" {
-		if err := l.replica.Barrier(q.ctx); err != nil {
-			return freshness{}, err
-		}
+	if err := l.wait(q); err != nil {
+		return freshness{}, err
 	}
+	return l.freshness(), nil
+}
+
+func (l *looks) wait(q *request) error {
+	if q.query.Get("now") != "1" {
+		return nil
+	}
+	return l.replica.Barrier(q.ctx)
+}
+
+// freshness is that of a look that begins now.
+func (l *looks) freshness() freshness {
 	fresh := l.replica.Freshness()
-	return freshness{Index: fresh.Index, fresh: fresh}, nil
+	return freshness{Index: fresh.Index, fresh: fresh}
 }
 
 // end is called after a look was taken.
@@ -55,13 +67,45 @@ func (l *looks) look(q *request, look func(*state.View) error) (freshness, state
 		at = view.Position
 		return look(view)
 	})
-	l.end(q, &now)
+	l.endAt(q, &now, at, err)
+	return now, at, err
+}
+
+// endAt is called after a look was taken at a book, which stood there.
+func (l *looks) endAt(q *request, now *freshness, at state.Position, err error) {
+	l.end(q, now)
 	q.w.Header().Set("Lrcmand-Entries", strconv.FormatUint(at.Made, 10))
 	q.w.Header().Set("Lrcmand-Opens", strconv.FormatUint(at.Opens, 10))
 	if err == nil {
 		q.w.Header().Set("ETag", tagOf(at))
 	}
-	return now, at, err
+}
+
+// lookLong takes a look at all of the book of the path, or shares one, and tells how new it is. What the look returns makes the text
+// of what it has seen, beside calls.
+func (l *looks) lookLong(q *request, look func(*state.View, *sight) (func() []byte, error)) (sight, error) {
+	if err := l.wait(q); err != nil {
+		return sight{}, err
+	}
+	name := q.names["book"]
+	found, err := l.flights.take(q.ctx, whatOf(q), func() (found sight, err error) {
+		var write func() []byte
+		found.now = l.freshness()
+		err = l.state.Look(name, func(view *state.View) (err error) {
+			found.at = view.Position
+			write, err = look(view, &found)
+			return err
+		})
+		if err == nil {
+			found.text = write()
+		}
+		return found, err
+	})
+	if err == error(errTooManyLooks) {
+		return found, err
+	}
+	l.endAt(q, &found.now, found.at, err)
+	return found, err
 }
 
 // A position is where a book stands and how new that is, in each look.
@@ -158,13 +202,12 @@ func (l *looks) nodes(q *request) error {
 }
 
 func (l *looks) image(q *request) error {
-	var text []byte
-	_, _, err := l.look(q, func(view *state.View) (err error) {
-		text, err = view.Image()
-		return err
+	found, err := l.lookLong(q, func(view *state.View, _ *sight) (func() []byte, error) {
+		text, err := view.Image()
+		return func() []byte { return text }, err
 	})
 	if err == nil {
-		q.write(http.StatusOK, "text/plain; charset=utf-8", text)
+		q.write(http.StatusOK, "text/plain; charset=utf-8", found.text)
 	}
 	return err
 }
@@ -194,17 +237,35 @@ func (l *looks) peek(q *request) error {
 	}{position{at.Made, at.Opens, now}, reply.JSON()})
 }
 
-// sayTable answers with a table, as CSV or as JSON.
-func (q *request) sayTable(table *book.Table, at state.Position, now freshness, isSafe *bool) error {
-	if q.query.Get("format") == "csv" {
-		q.write(http.StatusOK, "text/csv; charset=utf-8", table.CSV())
+// isCSV tells whether a table is asked for as CSV, and not as JSON.
+func (q *request) isCSV() bool { return q.query.Get("format") == "csv" }
+
+// writerOf writes the rows of a table as a request asks for them.
+func writerOf(q *request, snapshot book.TableSnapshot) func() []byte {
+	if q.isCSV() {
+		return func() []byte { return snapshot().CSV() }
+	}
+	return func() []byte { return snapshot().JSON() }
+}
+
+// sayTable answers with a table, whose rows are written.
+func (q *request) sayTable(found sight) error {
+	if q.isCSV() {
+		q.write(http.StatusOK, "text/csv; charset=utf-8", found.text)
 		return nil
 	}
-	return q.say(http.StatusOK, struct {
+	head, err := json.Marshal(struct {
 		position
-		IsSafe *bool       `json:"safe,omitempty"`
-		Rows   *book.Table `json:"rows"`
-	}{position{at.Made, at.Opens, now}, isSafe, table})
+		IsSafe *bool `json:"safe,omitempty"`
+	}{position{found.at.Made, found.at.Opens, found.now}, found.isSafe})
+	if err != nil {
+		return err
+	}
+	const rows, end = `,"rows":`, "}\n"
+	text := make([]byte, 0, len(head)+len(rows)+len(found.text)+len(end))
+	text = append(append(text, head[:len(head)-1]...), rows...)
+	q.write(http.StatusOK, "application/json", append(append(text, found.text...), end...))
+	return nil
 }
 
 func (l *looks) stripe(q *request) error {
@@ -222,7 +283,7 @@ func (l *looks) stripe(q *request) error {
 	} else if err != nil {
 		return err
 	}
-	return q.sayTable(snapshot(), at, now, nil)
+	return q.sayTable(sight{at: at, now: now, text: writerOf(q, snapshot)()})
 }
 
 func (l *looks) show(q *request) error { return l.table(q, q.names["view"]) }
@@ -231,15 +292,14 @@ func (l *looks) table(q *request, view string) error {
 	if !isView[view] {
 		return notFound("there is no such table; it has to be " + strings.Join(book.Views, ", "))
 	}
-	var snapshot book.TableSnapshot
-	now, at, err := l.look(q, func(it *state.View) (err error) {
-		snapshot, err = it.Show(view)
-		return err
+	found, err := l.lookLong(q, func(it *state.View, _ *sight) (func() []byte, error) {
+		snapshot, err := it.Show(view)
+		return writerOf(q, snapshot), err
 	})
 	if err != nil {
 		return err
 	}
-	return q.sayTable(snapshot(), at, now, nil)
+	return q.sayTable(found)
 }
 
 func notFound(words string) error { return &failure{Status: http.StatusNotFound, Words: words} }
@@ -294,14 +354,13 @@ func (l *looks) forecast(q *request, outage book.Outage) error {
 	if len(selected.Nodes)+len(selected.Faults)+len(selected.Upgrades) == 0 {
 		return bad("name a node, a fault or an upgrade")
 	}
-	var snapshot book.TableSnapshot
-	isSafe := false
-	now, at, err := l.look(q, func(view *state.View) (err error) {
-		snapshot, isSafe, err = view.ShowForecast(outage, selected)
-		return err
+	found, err := l.lookLong(q, func(view *state.View, found *sight) (func() []byte, error) {
+		snapshot, isSafe, err := view.ShowForecast(outage, selected)
+		found.isSafe = &isSafe
+		return writerOf(q, snapshot), err
 	})
 	if err != nil {
 		return err
 	}
-	return q.sayTable(snapshot(), at, now, &isSafe)
+	return q.sayTable(found)
 }

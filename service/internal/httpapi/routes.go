@@ -29,7 +29,7 @@ const (
 // table is what the service answers, but for the mounts of other packages.
 func (a *API) table() []Route {
 	calls := newCalls(a.cfg.Replica)
-	looks := &looks{a.cfg.State, a.cfg.Replica}
+	looks := &looks{a.cfg.State, a.cfg.Replica, a.flights}
 	group := &group{a.cfg.Engine, a.cfg.State, a.cfg.Replica, a.refused, a.cfg.Checks, a.cfg.Build, make(chan struct{}, mostBackups)}
 	rules := &rules{calls, a.cfg.State, a.cfg.Engine}
 	logs := &logs{a.cfg.State, make(chan struct{}, mostStreams), a.stop}
