@@ -75,7 +75,12 @@ func TestTheCommandLineIsReadOrRefused(t *testing.T) {
 		"--data d --listen-metrics h:7420":                "--listen-metrics beyond loopback takes --trust-network",
 		"--data d --listen h:7421 --token-file " + tokens: "takes --cert and --key, or tokens are in the clear",
 
-		"--data d --join --new --peer [::1]:2":           "--new is for the first members",
+		"--data d --join --new --peer [::1]:2":                                             "--new is for the first members",
+		"--data d --join --trust-network --peer 0.0.0.0:1":                                 "--peer is told to the others: they reach nobody at 0.0.0.0:1",
+		"--data d --join --trust-network --peer h:1 --listen [::]:2":                       "--listen is told to the others: they reach nobody at [::]:2",
+		"--data d --trust-network --listen 0.0.0.0:2":                                      "",
+		"--data d --trust-network --peer 0.0.0.0:1 --listen 0.0.0.0:2 --members 1=h:1/h:2": "",
+
 		"--data d --peer-name n":                         "--peer-name takes --peer-ca",
 		"--data d --peer-name":                           "flag needs an argument: -peer-name",
 		"--data d --peer [::1]:2 --token-file " + tokens: "--token-file and --client-ca take --peer-cert",

@@ -238,8 +238,8 @@ func (o *options) checkAddresses() error {
 			return fmt.Errorf("--listen-metrics %w", err)
 		}
 	}
-	if o.trustNetwork {
-		return nil
+	if err := o.checkTold(); err != nil || o.trustNetwork {
+		return err
 	}
 	if !isLoopback(o.listen) && o.rights == nil && o.clientCA == "" {
 		return errors.New("--listen beyond loopback takes --token-file or --client-ca, or else --trust-network")
@@ -256,6 +256,20 @@ func (o *options) checkAddresses() error {
 	if o.peer != "" && o.peerCA == "" && (o.rights != nil || o.clientCA != "") {
 		return errors.New("--token-file and --client-ca take --peer-cert, --peer-key and --peer-ca where there is a port for members, " +
 			"or else --trust-network: whoever has an account on this machine speaks as a member there")
+	}
+	return nil
+}
+
+// checkTold refuses addresses at which a member is reached by nobody, where it tells them to its group. (--members has others)
+func (o *options) checkTold() error {
+	if o.members != "" || o.peer == "" {
+		return nil
+	}
+	for _, it := range []struct{ name, address string }{{"--peer", o.peer}, {"--listen", o.listen}} {
+		host, _, _ := net.SplitHostPort(it.address)
+		if ip := net.ParseIP(host); ip != nil && ip.IsUnspecified() {
+			return fmt.Errorf("%s is told to the others: they reach nobody at %s", it.name, it.address)
+		}
 	}
 	return nil
 }

@@ -247,6 +247,38 @@ func TestNoTickComesEarly(t *testing.T) {
 	}
 }
 
+// A leader that gives its lead away in the middle leaves the other books to the next one.
+func TestNoBookTicksBehindTheLead(t *testing.T) {
+	m := newMember(t, nil)
+	m.propose(&state.Item{Action: state.Create, Book: "p1", Nodes: nodes()})
+	for _, name := range []string{"p0", "p1"} {
+		for _, line := range []string{"place 1", "fail 1", "next"} {
+			item := call(line, "")
+			item.Book = name
+			m.propose(item)
+		}
+	}
+	m.run()
+	m.engine.Change(func(e *testengine.Local) {
+		e.Wrong = func([]byte) (bool, error) {
+			e.Leader = 2
+			return true, nil
+		}
+	})
+	m.replica.tickAll()
+	for name, want := range map[string]uint64{"p0": 4, "p1": 3} {
+		err := m.state.Look(name, func(view *state.View) error {
+			if view.Position.Made != want {
+				t.Errorf("book %s has %d entries, and not %d", name, view.Position.Made, want)
+			}
+			return nil
+		})
+		if err != nil {
+			t.Error(err)
+		}
+	}
+}
+
 // slowly is an engine that was stopped for a while at a proposal.
 type slowly struct {
 	engine.Engine

@@ -20,8 +20,7 @@ func (r *Replica) tick(ctx context.Context, every time.Duration) {
 		case <-ctx.Done():
 			return
 		}
-		status := r.cfg.Engine.Status()
-		if leads := status.Leader == status.ID; !leads || !isLeader {
+		if leads := r.leads(); !leads || !isLeader {
 			isLeader, since = leads, time.Now() // a new leader waits for a whole interval: a lease lasts longer, never shorter
 		} else if time.Since(since) >= every {
 			since = time.Now() // (ticks are not made up for: a member that was stopped would end young leases)
@@ -30,9 +29,17 @@ func (r *Replica) tick(ctx context.Context, every time.Duration) {
 	}
 }
 
-// tickAll makes each book with a live lease tick.
+func (r *Replica) leads() bool {
+	status := r.cfg.Engine.Status()
+	return status.Leader == status.ID
+}
+
+// tickAll makes each book with a live lease tick, as long as this member leads.
 func (r *Replica) tickAll() {
 	for _, name := range r.cfg.State.Names() {
+		if !r.leads() {
+			return // (what is proposed now would come within the interval of the next one)
+		}
 		hasLease := false
 		err := r.cfg.State.Look(name, func(view *state.View) error {
 			hasLease = view.HasLease()
