@@ -20,10 +20,10 @@ const (
 var (
 	mu    sync.Mutex
 	dice  = rand.New(rand.NewSource(time.Now().UnixNano() + int64(os.Getpid())))
-	given = map[int]bool{}
+	given = map[int]net.Listener{} // names that tell other processes of tests, until this one ends
 )
 
-// Free is an address that it has not given before in this process.
+// Free is an address that it has given to nobody else, in this process or in others that run now.
 func Free(t testing.TB) string {
 	t.Helper()
 	mu.Lock()
@@ -31,11 +31,18 @@ func Free(t testing.TB) string {
 	for try := 0; try < 1000; try++ {
 		port := least + dice.Intn(most-least)
 		address := fmt.Sprintf("127.0.0.1:%d", port)
-		if listener, err := net.Listen("tcp", address); err == nil && !given[port] {
-			listener.Close()
-			given[port] = true
-			return address
+		name, err := net.Listen("unix", fmt.Sprintf("@lrcmand-test-port-%d", port))
+		if err != nil {
+			continue
 		}
+		listener, err := net.Listen("tcp", address)
+		if err != nil {
+			name.Close()
+			continue
+		}
+		listener.Close()
+		given[port] = name
+		return address
 	}
 	t.Fatal("there is no free port")
 	return ""

@@ -216,6 +216,19 @@ func TestWhoeverWaitsIsToldWhenTheLeaderIsLost(t *testing.T) {
 	}
 }
 
+// Entries between two snapshots that came would be applied to a state of before the first, which is not restored for the second.
+func TestWhatASnapshotHasIsNotApplied(t *testing.T) {
+	t.Parallel()
+	n := still(t)
+	for i, text := range texts(1, 3) {
+		n.handOver([]raftpb.Entry{{Index: n.handed + 1, Term: 1, Data: withID(uint64(i+1), []byte(text))}})
+	}
+	atomic.StoreUint64(&n.received, n.handed-1)
+	go n.applier.run()
+	n.applier.drain()
+	expect(t, n.machine.(*list), texts(3, 3))
+}
+
 func TestSomeEntriesStayBehindASnapshot(t *testing.T) {
 	t.Parallel()
 	cfg, _ := configOf(t, t.TempDir(), alone, alone)

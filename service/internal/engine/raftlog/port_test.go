@@ -606,6 +606,24 @@ func TestReachesAreOrdered(t *testing.T) {
 	}
 }
 
+// An answer to a start before this one may tell of what this folder does not have.
+func TestWhatIsForAnotherStartIsNotTaken(t *testing.T) {
+	t.Parallel()
+	g := groupOf(t, 2)
+	propose(t, g.nodes[1], "entry 1")
+	leader := g.leader()
+	other := g.other(leader)
+	h := handOf(t, g.nodes[other], g.nodes[leader])
+	m := raftpb.Message{Type: raftpb.MsgHeartbeatResp, From: other, To: leader, Term: g.nodes[leader].Status().Term}
+	if status, words := h.message(m); status != http.StatusNoContent {
+		t.Errorf("for this start: %d %s", status, words)
+	}
+	h.to++
+	if status, words := h.message(m); status != http.StatusConflict || !strings.Contains(words, "for another start of this member") {
+		t.Errorf("for another start: %d %s", status, words)
+	}
+}
+
 // What a member does not have must not count as acknowledged: its folder would be taken for an older copy.
 func TestWhatAMemberRefusesIsNotAcknowledged(t *testing.T) {
 	for _, it := range []struct {
