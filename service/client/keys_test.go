@@ -25,8 +25,8 @@ func TestEachCallIsMadeAtMostOnceAndToldRightly(t *testing.T) {
 		for _, m := range members {
 			m.plan(dice.Intn(8), someFaults(dice, dice.Intn(4))...)
 		}
-		for i := 0; i < 2; i++ {
-			told[checkOne(t, g, c, members)]++
+		for _, worker := range []string{"first", "second"} {
+			told[checkOne(t, g, c, worker)]++
 		}
 	}
 	for _, it := range []string{"told", "KeyForgotten"} {
@@ -37,17 +37,19 @@ func TestEachCallIsMadeAtMostOnceAndToldRightly(t *testing.T) {
 	t.Log(told)
 }
 
-// checkOne makes one call and returns what came of it.
-func checkOne(t *testing.T, g *group, c *Client, members []*member) string {
+// checkOne makes one call for a worker of its own and returns what came of it. (On a busy machine a try of the call before may come
+// to its member late)
+func checkOne(t *testing.T, g *group, c *Client, worker string) string {
 	t.Helper()
-	before := len(g.tries())
-	reply, err := c.Call(background, "p0", Tick())
+	reply, err := c.Call(background, "p0", Tick(), WithWorker(worker))
 	g.mu.Lock()
 	g.makeLate()
-	tries, ahead := append([]call(nil), g.calls[before:]...), append([]call(nil), g.ahead...)
-	made := map[string]int{}
-	for _, it := range tries {
-		made[it.Key] = g.made[it.Key]
+	var tries []call
+	ahead, made := append([]call(nil), g.ahead...), map[string]int{}
+	for _, it := range g.calls {
+		if it.Worker == worker {
+			tries, made[it.Key] = append(tries, it), g.made[it.Key]
+		}
 	}
 	g.mu.Unlock()
 	if len(made) > 1 || len(ahead) > 0 {
