@@ -262,8 +262,11 @@ func TestARemovalThatTakesTheMajorityIsRefused(t *testing.T) {
 	propose(t, g.nodes[1], "entry 1")
 	leader := g.leader()
 	away := g.other(leader)
-	g.nodes[away].Close()
-	delete(g.nodes, away)
+	g.close(away)
+	for _, n := range g.nodes {
+		n := n
+		eventually(t, "what it has sent has come", func() bool { return !n.isHeard(away) })
+	}
 	other := g.other(leader)
 	g.refused(removing(other), "of the members that would vote then, 2, only 1 were heard of")
 	propose(t, g.nodes[leader], "entry 2") // (nothing was changed)

@@ -265,7 +265,7 @@ func TestAMemberThatHearsNobodyStaysInItsTerm(t *testing.T) {
 	away := g.nodes[g.other(g.leader())]
 	barrier(t, away)
 	term := away.Status().Term
-	end := time.Now().Add(5 * g.configs[1].Election)
+	end := time.Now().Add(4 * g.configs[1].Election)
 	eventually(t, "it knows no leader for a while", func() bool {
 		away.setDoubted(true) // (it hears nobody, and nobody hears it)
 		return away.Status().Leader == raft.None && time.Now().After(end)

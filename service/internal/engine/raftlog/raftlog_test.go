@@ -318,9 +318,7 @@ func withSnapshots(t *testing.T) (Config, *said, []string) {
 		propose(t, n, text)
 		if i%15 == 14 {
 			before := n.Status().Snapshot
-			if err := n.Snapshot(context.Background()); err != nil {
-				t.Fatal(err)
-			}
+			eventually(t, "a snapshot is begun", func() bool { return n.Snapshot(context.Background()) == nil })
 			eventually(t, "a snapshot is made", func() bool { return n.Status().Snapshot > before })
 		}
 	}
