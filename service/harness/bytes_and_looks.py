@@ -54,19 +54,17 @@ def test_bytes(count, program, room, nodes, changes):
 
 
 # A book whose tables take long: so many stripes over so many nodes.
-STRIPES, PLACERS = 2000, 8
+STRIPES, PLACERS = 3000, 8
 NODES = harness.topology_of({number: Node(number % 32, (number + number // 32) % 16, 192) for number in range(512)})
 
-LOOKERS = 3
-ROUNDS, CALLS = 8, 50
-# What a call may wait longer beside looks, in looks. One that waits for a whole look each time waits for a third of what a looker is
-# told after, or more: that one waits for the look before its own, too.
-MOST_OF_A_LOOK = 0.2
+ROUNDS, LOOKS = 8, 10
+SLOW = 0.4  # of a look: a call that waits for all of one waits longer
+MOST_SLOW = 0.6  # slow calls for each look: where looks hold up calls, each of them holds up one
 
 
-def look(port, path, is_over, took):
-    """Looks at one book without a pause, and notes the milliseconds of each look."""
-    connection = http.client.HTTPConnection("127.0.0.1", port, timeout=60)
+def look_from(port, path, is_over, made, told):
+    """What a process does that looks at a book without a pause. At the end it tells the milliseconds of its looks."""
+    connection, took = http.client.HTTPConnection("127.0.0.1", port, timeout=60), []
     while not is_over.is_set():
         begun = time.monotonic()
         try:
@@ -75,29 +73,21 @@ def look(port, path, is_over, took):
             answer.read()
             if answer.status == 200:
                 took.append((time.monotonic() - begun) * 1000)
+                made.value += 1
         except (OSError, http.client.HTTPException):
             connection.close()
     connection.close()
-
-
-def look_from(port, path, is_over, told):
-    """What the process of lookers does. At the end it tells the times of all its looks."""
-    took = []
-    threads = [threading.Thread(target=look, args=(port, path, is_over, took)) for _ in range(LOOKERS)]
-    for thread in threads:
-        thread.start()
-    for thread in threads:
-        thread.join()
     told.put(took)
 
 
-class Lookers:
-    """A process of its own, so that it takes no time of whoever calls. They are few: a lock is held without a pause for three, too,
-    and more would take the cores of a small machine."""
+class Looker:
+    """One of them: each of its looks is taken for it alone."""
 
     def __init__(self, port, path):
-        self.is_over, self.told, self.took = multiprocessing.Event(), multiprocessing.Queue(), []
-        self.process = multiprocessing.Process(target=look_from, args=(port, path, self.is_over, self.told))
+        self.is_over, self.made, self.told = multiprocessing.Event(), multiprocessing.Value("q", 0), multiprocessing.Queue()
+        self.took = []
+        args = port, path, self.is_over, self.made, self.told
+        self.process = multiprocessing.Process(target=look_from, args=args)
 
     def __enter__(self):
         self.process.start()
@@ -105,7 +95,7 @@ class Lookers:
 
     def __exit__(self, *_):
         self.is_over.set()
-        self.took = self.told.get(timeout=120)
+        self.took = sorted(self.told.get(timeout=120))
         self.process.join()
 
 
@@ -118,11 +108,6 @@ def call(asker, port, book, command, key):
     return (time.monotonic() - begun) * 1000
 
 
-def calls(port, book, prefix):
-    asker = Asker(60)
-    return statistics.median(call(asker, port, book, "tick", f"{prefix}-{number}") for number in range(CALLS))
-
-
 def place_stripes(port):
     def place(first):
         asker = Asker(60)
@@ -132,33 +117,42 @@ def place_stripes(port):
         list(placers.map(place, range(PLACERS)))
 
 
-def waits_beside(port, book, path):
-    """What a call of a book waits longer beside lookers than without, in looks, and the number of looks. A machine that others use
-    may hold up any round, and what holds up each call holds up all: so the first good round of some is enough."""
-    without, looks = [], 0
+def slow_beside(port, looked_at, book, path, key):
+    """How many calls of a book at one member are slow for each look at a member that is taken beside them."""
+    asker, took, end = Asker(60), [], time.monotonic() + 60
+    with Looker(looked_at, path) as looker:
+        while looker.made.value < LOOKS and time.monotonic() < end:
+            took.append(call(asker, port, book, "tick", f"{key}-{len(took)}"))
+    if len(looker.took) < LOOKS:
+        raise RuntimeError(f"{len(looker.took)} looks at {path} in a minute")
+    look = looker.took[len(looker.took) // 4]  # (others waited for room)
+    slow = sum(it > look * SLOW for it in took) / len(looker.took)
+    print(f"{len(took)} calls of {book} beside {len(looker.took)} looks of {look:.1f} ms: median {statistics.median(took):.1f} ms, "
+          f"{slow:.2f} slow ones for each look", flush=True)
+    return slow
+
+
+def more_slow_beside(port, other, book, path):
+    """How many more calls are slow for each look at their own member than for each at another one, which takes as much of the
+    machine and holds up nobody here. A machine that others use may spoil any round, and a lock all: the first good round is
+    enough."""
     for number in range(ROUNDS):
-        without.append(calls(port, book, f"a{number}{path}"))
-        with Lookers(port, path) as lookers:
-            beside = calls(port, book, f"b{number}{path}")
-        looks += len(lookers.took)
-        looked = statistics.median(lookers.took or [0.001])
-        waits = (beside - min(without)) / looked
-        if waits < MOST_OF_A_LOOK and looks > LOOKERS:
+        elsewhere = slow_beside(port, other, book, path, f"{book}-{path}-{number}-elsewhere")
+        more = slow_beside(port, port, book, path, f"{book}-{path}-{number}") - elsewhere
+        if more < MOST_SLOW:
             break
-    print(f"a call of {book}: {min(without):.1f} ms, beside {LOOKERS} lookers at {path} {beside:.1f} ms; "
-          f"{looks} looks of {looked:.1f} ms; {number + 1} rounds", flush=True)
-    return waits, looks
+    return more
 
 
 def test_calls_beside_looks(count, program, room, nodes):
-    """Calls of a book, and of another one, beside clients that look at the first without a pause. The rows of a table are written
-    beside calls of its book; and no look holds up another book, however long it has its own."""
+    """Calls of a book, and of another one, beside a client that looks at the first without a pause. The rows of a table are
+    written beside calls of its book; and no look holds up another book, however long it has its own."""
     with Group(program, f"{room}/looks", 3, ["--tick", "0", "--election", "3s"]) as group:
         make_books(group, NODES)
-        port = group.members[group.leader()].client
+        leader = group.leader()
+        port, other = (group.members[it].client for it in (leader, leader % len(group.members) + 1))
         group.asker.ask(port, "PUT", "/books/other", harness.topology_of(nodes))
         place_stripes(port)
         for book, path in ("p0", "/books/p0/show/stripes"), ("other", "/books/p0/show/stripes"), ("other", "/books/p0/image"):
-            waits, looks = waits_beside(port, book, path)
-            count.check(f"calls of {book} wait for {waits:.2f} looks at {path}", waits < MOST_OF_A_LOOK)
-            count.check(f"looks were made beside: {looks} at {path}", looks > LOOKERS)
+            more = more_slow_beside(port, other, book, path)
+            count.check(f"{more:.2f} more calls of {book} wait for each look at {path}", more < MOST_SLOW)

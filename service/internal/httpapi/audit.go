@@ -42,7 +42,7 @@ type audit struct {
 
 func newAudit(write func(string)) *audit {
 	if write == nil {
-		write = func(string) {}
+		return nil
 	}
 	return &audit{write, newSparing(mostRefusals, write)}
 }
@@ -57,7 +57,7 @@ func idOf(r *http.Request) string {
 
 func (a *audit) note(q *request, status int, index string) {
 	isRefused := status == http.StatusUnauthorized || status == http.StatusForbidden
-	if q.takes != Operate && !isRefused {
+	if a == nil || q.takes != Operate && !isRefused {
 		return
 	}
 	line := fmt.Sprintf("time=%s name=%s address=%s method=%s path=%s status=%d index=%s",

@@ -8,6 +8,7 @@ import (
 	"runtime"
 	"runtime/debug"
 	"sync"
+	"time"
 
 	"lrcman/service/internal/state"
 )
@@ -20,6 +21,13 @@ type flights struct {
 	mu    sync.Mutex
 	next  map[string]*flight // those that have not begun, by what they look at
 }
+
+// restTimes is how many times as long as a look took there is none in its place. What a look is answered has to be sent, and its
+// book is locked for a part of it: so calls have most of the time, however many look.
+const (
+	restTimes = 3
+	mostRest  = 100 * time.Millisecond
+)
 
 // A flight is a look that is taken once for all who ask for it before it begins.
 type flight struct {
@@ -83,10 +91,11 @@ func (s *flights) leave(f *flight) {
 	f.waiting--
 }
 
-// fly takes a look once there is room, if anybody still waits for it.
+// fly takes a look once there is room, if anybody still waits for it. Then its room stays empty for some times as long.
 func (s *flights) fly(what string, f *flight, look func() (sight, error)) {
 	s.slots <- struct{}{}
-	defer func() { <-s.slots }()
+	begun := time.Now()
+	defer func() { time.Sleep(restOf(time.Since(begun))); <-s.slots }()
 	defer close(f.landed)
 	if !s.begin(what, f) {
 		return
@@ -97,6 +106,13 @@ func (s *flights) fly(what string, f *flight, look func() (sight, error)) {
 		}
 	}()
 	f.found, f.err = look()
+}
+
+func restOf(took time.Duration) time.Duration {
+	if rest := restTimes * took; rest < mostRest {
+		return rest
+	}
+	return mostRest
 }
 
 // begin lets nobody else join, and tells whether anybody has.

@@ -5,6 +5,7 @@ import (
 	"errors"
 	"fmt"
 	"net/http"
+	"net/http/httptest"
 	"strings"
 	"sync"
 	"sync/atomic"
@@ -184,4 +185,25 @@ func TestSmallLooksAndCallsDoNotWaitForLongOnes(t *testing.T) {
 	if answer, text := s.ask("GET", "/books/p0/image", ""); answer.StatusCode != 200 {
 		t.Errorf("%d %s", answer.StatusCode, text)
 	}
+}
+
+// A call waits until a book was seen, and not until what was seen is written.
+func TestATableIsWrittenBesideCalls(t *testing.T) {
+	s := newService(t, nil)
+	l := &looks{s.state, s.api.cfg.Replica, s.api.flights}
+	r := httptest.NewRequest("GET", "/books/p0/show/stripes", nil)
+	q := &request{w: httptest.NewRecorder(), r: r, ctx: r.Context(), api: s.api, names: map[string]string{"book": "p0"}}
+	writes, called, done := make(chan struct{}), make(chan struct{}), make(chan struct{})
+	go func() {
+		defer close(done)
+		l.lookLong(q, func(*state.View, *sight) (func() []byte, error) {
+			return func() []byte { close(writes); <-called; return nil }, nil
+		})
+	}()
+	<-writes
+	if answer, text := s.ask("POST", "/books/p0/call", `{"command":"tick"}`); answer.StatusCode != 200 {
+		t.Errorf("%d %s", answer.StatusCode, text)
+	}
+	close(called)
+	<-done
 }

@@ -79,3 +79,25 @@ func TestALookWaitsForOneEntryAtMost(t *testing.T) {
 	close(stop)
 	<-done
 }
+
+// A look at one book holds up none of the others, nor the list of them.
+func TestALookHoldsUpNoOtherBook(t *testing.T) {
+	p := newPlayer(t)
+	p.item(&Item{Action: Create, Book: "p1", Nodes: twenty})
+	looks, called, done := make(chan struct{}), make(chan struct{}), make(chan error)
+	go func() { done <- p.s.Look("p0", func(*View) error { close(looks); <-called; return nil }) }()
+	<-looks
+	go func() {
+		defer close(called)
+		p.item(&Item{Action: Call, Book: "p1", Session: 1, Command: call(t, "tick").Command})
+		p.s.Names()
+	}()
+	select {
+	case <-called:
+	case <-time.After(20 * time.Second):
+		t.Fatal("a call of another book waits for a look")
+	}
+	if err := <-done; err != nil {
+		t.Error(err)
+	}
+}
