@@ -408,7 +408,8 @@ func TestAFolderIsOfItsUserAlone(t *testing.T) {
 	n, _ := begin(t, cfg)
 	propose(t, n, "entry 1")
 	n.Close()
-	for _, path := range []string{folder, n.snapFolder(), n.logFolder(), filepath.Join(folder, markName), filepath.Join(folder, identityName)} {
+	for _, path := range []string{folder, n.snapFolder(), n.logFolder(), filepath.Join(folder, markName),
+		filepath.Join(folder, identityName)} {
 		if info, err := os.Stat(path); err != nil || info.Mode().Perm()&0o077 != 0 {
 			t.Errorf("%s: %v %v", path, info.Mode(), err)
 		}
