@@ -115,6 +115,9 @@ type Engine interface {
 	Barrier(ctx context.Context) error
 	// Status is how this member sees the group now.
 	Status() Status
+	// LeaderID and AppliedIndex are the Leader and Applied of it, for whoever asks at each request.
+	LeaderID() uint64
+	AppliedIndex() uint64
 	// Add adds a member as one that learns. The leader makes it vote once it has what the leader has, unless it is a Learner.
 	// To add one that only learns, as one that does not, makes it vote if it has as much. Remove removes a member. isAgain says
 	// that it was so before. The error is a Refused if the change is not lawful, or if the members after it would have no

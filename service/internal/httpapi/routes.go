@@ -76,7 +76,10 @@ const Other = "other"
 // label is that of a request. Names are not in it, since there may be many, but for that of a table.
 func (t *Route) label(names map[string]string) string {
 	view, hasView := names["view"]
-	if hasView && !isView[view] {
+	switch {
+	case !hasView:
+		return t.Pattern
+	case !isView[view]:
 		return Other
 	}
 	return strings.Replace(t.Pattern, "{view}", view, 1)
@@ -100,14 +103,20 @@ func (t *Route) match(path string) bool {
 
 // names are those of a path that matches.
 func (t *Route) names(path string) map[string]string {
-	names, words := map[string]string{}, strings.Split(path, "/")
-	for i, word := range strings.Split(t.Pattern[1:], "/") {
-		if strings.HasPrefix(word, "{") {
-			names[word[1:len(word)-1]] = words[i]
+	names, wanted := map[string]string{}, t.Pattern[1:]
+	for isLonger := true; isLonger; {
+		var word, want string
+		word, path, isLonger = strings.Cut(path, "/")
+		want, wanted, _ = strings.Cut(wanted, "/")
+		if strings.HasPrefix(want, "{") {
+			names[want[1:len(want)-1]] = word
 		}
 	}
 	return names
 }
+
+// lastWord is what stands behind the last slash. (It tells most routes apart, so few paths are looked at word by word)
+func lastWord(path string) string { return path[strings.LastIndexByte(path, '/')+1:] }
 
 // A target is what a request is for: its route, or why there is none.
 type target struct {
@@ -127,10 +136,13 @@ func (a *API) find(r *http.Request, isWatch bool) target {
 	if method == http.MethodHead {
 		method = http.MethodGet
 	}
-	found := target{label: Other}
+	found, last := target{label: Other}, lastWord(path)
 	var methods []string
 	for i := range a.routes {
 		route := &a.routes[i]
+		if want := lastWord(route.Pattern); want != last && !strings.HasPrefix(want, "{") {
+			continue
+		}
 		if !route.match(path) || isWatch && !onWatch[route.Pattern] {
 			continue
 		}

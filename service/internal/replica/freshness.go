@@ -50,7 +50,7 @@ type Freshness struct {
 
 // Freshness is how new a look is that begins now.
 func (r *Replica) Freshness() Freshness {
-	return Freshness{r.cfg.Engine.Status().Applied, atomic.LoadInt64(&r.fresh)}
+	return Freshness{r.cfg.Engine.AppliedIndex(), atomic.LoadInt64(&r.fresh)}
 }
 
 // Age is the number of milliseconds since all was applied that was told, rounded up; -1 if this member has heard of nothing yet.
@@ -67,7 +67,7 @@ func (r *Replica) Age(f Freshness) int64 {
 
 // KeepsUp tells whether this member knows of a leader, and was up to date a short while ago.
 func (r *Replica) KeepsUp() bool {
-	leader, age := r.cfg.Engine.Status().Leader, r.Age(r.Freshness())
+	leader, age := r.cfg.Engine.LeaderID(), r.Age(r.Freshness())
 	return leader != 0 && age >= 0 && age <= 5*freshTime.Milliseconds()
 }
 

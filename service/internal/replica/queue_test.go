@@ -175,11 +175,7 @@ func TestASinceIsRenewedOnlyWhereNothingWasMade(t *testing.T) {
 // behind is a member that has applied one entry.
 type behind struct{ engine.Engine }
 
-func (b behind) Status() engine.Status {
-	status := b.Engine.Status()
-	status.Applied = 1
-	return status
-}
+func (b behind) AppliedIndex() uint64 { return 1 }
 
 // Items that came in one entry each have their own fate: one without a key is told at once that nobody knows.
 func TestNoItemWaitsForTheFateOfOthers(t *testing.T) {

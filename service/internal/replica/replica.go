@@ -77,7 +77,7 @@ func (r *Replica) Waiting() int { return r.queue.count() }
 // error is an *Unknown if nobody knows whether it was made. After any other one, that of MayChange too, nothing was made.
 func (r *Replica) Do(ctx context.Context, item *state.Item) (state.Answer, error) {
 	if item.Key != "" {
-		item.Since = r.cfg.Engine.Status().Applied
+		item.Since = r.cfg.Engine.AppliedIndex()
 	}
 	return r.do(ctx, newPending(item, item.Key != ""))
 }
@@ -122,7 +122,7 @@ func (r *Replica) do(ctx context.Context, p *pending) (state.Answer, error) {
 	}
 }
 
-func (r *Replica) hasLeader() bool { return r.cfg.Engine.Status().Leader != 0 }
+func (r *Replica) hasLeader() bool { return r.cfg.Engine.LeaderID() != 0 }
 
 // isLeaderless tells whether this member knows of no leader, and has not for longer than an election.
 func (r *Replica) isLeaderless() bool {

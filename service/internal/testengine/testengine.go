@@ -74,6 +74,12 @@ func (l *Local) Status() engine.Status {
 	return engine.Status{ID: 1, Leader: l.Leader, Applied: l.index, Members: append([]engine.Member{}, l.Members...), Turned: l.Turned}
 }
 
+// LeaderID is the leader of its Status.
+func (l *Local) LeaderID() uint64 { return l.Status().Leader }
+
+// AppliedIndex is the last entry of its Status.
+func (l *Local) AppliedIndex() uint64 { return l.Status().Applied }
+
 // Add takes any member but 9, as long as this one leads, and 8 only by force.
 func (l *Local) Add(_ context.Context, member engine.Member, isForced bool) (isAgain bool, err error) {
 	l.mu.Lock()

@@ -323,6 +323,12 @@ func (n *Node) Status() engine.Status {
 		First: first, Last: last, LastTerm: lastTerm, Members: n.sorted(), Turned: time.Unix(0, atomic.LoadInt64(&n.turned))}
 }
 
+// LeaderID is the number of the leader, as far as this member knows; 0 for none.
+func (n *Node) LeaderID() uint64 { return atomic.LoadUint64(&n.lead) }
+
+// AppliedIndex is the last entry that this member has applied.
+func (n *Node) AppliedIndex() uint64 { return atomic.LoadUint64(&n.applied) }
+
 // Snapshot begins to write one now. The loop may wait for the disk meanwhile.
 func (n *Node) Snapshot(ctx context.Context) error {
 	answer := make(chan error, 1)
