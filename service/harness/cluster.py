@@ -46,8 +46,9 @@ class Asker:
             answer = self.connection.getresponse()
             if answer.length is None and not answer.chunked:
                 raise http.client.IncompleteRead(b"")  # (it broke off within its head)
+            text = answer.read()  # (which fails where its head broke off behind the length: a number there may be cut)
             self.index = max(self.index, int(answer.headers.get("Lrcmand-Index", 0)))
-            return answer.status, answer.headers, answer.read()
+            return answer.status, answer.headers, text
         except (OSError, http.client.HTTPException):
             self.close()
             return 0, {}, b""
