@@ -129,7 +129,8 @@ func (a *API) ServeHTTP(w http.ResponseWriter, r *http.Request) { a.serve(w, r, 
 func (a *API) answerIn(w http.ResponseWriter, r *http.Request, to target, isWatch bool) *request {
 	ctx, cancel := context.WithTimeout(r.Context(), a.cfg.Timeout)
 	defer cancel()
-	q := &request{w: w, r: r, ctx: ctx, api: a, id: idOf(r), names: to.names, isWatch: isWatch, caller: &caller{}, isRead: r.ContentLength == 0}
+	q := &request{w: w, r: r, conn: connOf(r), ctx: ctx, api: a, id: idOf(r), names: to.names, isWatch: isWatch, caller: &caller{},
+		isRead: r.ContentLength == 0}
 	defer q.giveBack()
 	q.limitTimes()
 	if q.isRead {
@@ -223,6 +224,7 @@ func (t *tally) counts() map[int]uint64 {
 type request struct {
 	w       http.ResponseWriter
 	r       *http.Request
+	conn    net.Conn // that it came over; looked up once, since each of its times is set there
 	ctx     context.Context
 	api     *API
 	id      string // that its client gave it; "" if none did

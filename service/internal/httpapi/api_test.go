@@ -28,7 +28,7 @@ import (
 
 // A service under test.
 type service struct {
-	t      *testing.T
+	t      testing.TB
 	engine *testengine.Local
 	state  *state.State
 	api    *API
@@ -50,7 +50,7 @@ type setup struct {
 	Config
 }
 
-func newService(t *testing.T, change func(*setup)) *service {
+func newService(t testing.TB, change func(*setup)) *service {
 	t.Helper()
 	books := state.New()
 	e := testengine.New(books)

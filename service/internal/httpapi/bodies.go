@@ -44,23 +44,24 @@ func (o *room) giveBack(cost int64) {
 
 func (q *request) giveBack() { q.api.bodies.giveBack(q.taken) }
 
-func (q *request) conn() net.Conn {
-	c, _ := q.r.Context().Value(connKey{}).(net.Conn)
+// connOf is the connection that a request came over; nil if it came over none, as in tests.
+func connOf(r *http.Request) net.Conn {
+	c, _ := r.Context().Value(connKey{}).(net.Conn)
 	return c
 }
 
 // limitTimes gives the client time to take what comes next, and to send the body, whoever reads it.
 func (q *request) limitTimes() {
 	q.limitWrite()
-	if c := q.conn(); c != nil && !q.isRead {
-		c.SetReadDeadline(time.Now().Add(q.api.cfg.Knobs.BodyTime))
+	if q.conn != nil && !q.isRead {
+		q.conn.SetReadDeadline(time.Now().Add(q.api.cfg.Knobs.BodyTime))
 	}
 }
 
 // limitWrite gives the client time to take what comes next.
 func (q *request) limitWrite() {
-	if c := q.conn(); c != nil {
-		c.SetWriteDeadline(time.Now().Add(q.api.cfg.Knobs.WriteTime))
+	if q.conn != nil {
+		q.conn.SetWriteDeadline(time.Now().Add(q.api.cfg.Knobs.WriteTime))
 	}
 }
 
@@ -97,15 +98,15 @@ func (q *request) read(length int64) ([]byte, error) {
 	}
 	q.isRead = true
 	q.enter(answering)
-	if c := q.conn(); c != nil {
-		c.SetReadDeadline(time.Time{}) // (what is read from now on is whether the client is still there)
+	if q.conn != nil {
+		q.conn.SetReadDeadline(time.Time{}) // (what is read from now on is whether the client is still there)
 	}
 	return text, nil
 }
 
 func (q *request) enter(now stage) {
-	if c := q.conn(); c != nil {
-		q.connections().enter(c, now)
+	if q.conn != nil {
+		q.connections().enter(q.conn, now)
 	}
 }
 

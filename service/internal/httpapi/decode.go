@@ -34,6 +34,14 @@ func decode(text []byte, value interface{}) error {
 	if !utf8.Valid(text) {
 		return bad("the body is not UTF-8")
 	}
+	if readFlat(text, value) {
+		return nil
+	}
+	return decodeAny(text, value)
+}
+
+// decodeAny reads an object that is not plain, or finds the words for what is wrong with it.
+func decodeAny(text []byte, value interface{}) error {
 	if err := checkFields(text, value); err != nil {
 		return err
 	}
@@ -262,6 +270,9 @@ func memberOf(text []byte, id uint64) (engine.Member, error) {
 func isJSON(r *http.Request, takesText bool) (bool, error) {
 	if encoding := r.Header.Get("Content-Encoding"); encoding != "" && encoding != "identity" {
 		return false, wrongType("the body may have no Content-Encoding")
+	}
+	if r.Header.Get("Content-Type") == "application/json" { // (nearly all say it so, and there is nothing to parse)
+		return true, nil
 	}
 	kind, parameters, err := mime.ParseMediaType(r.Header.Get("Content-Type"))
 	charset := strings.ToLower(parameters["charset"])

@@ -151,8 +151,8 @@ func (g *group) backup(q *request) error {
 	q.w.Header().Set("Lrcmand-Index", strconv.FormatUint(backup.Index, 10))
 	q.w.WriteHeader(http.StatusOK)
 	if err := backup.Write(patient{q}); err != nil {
-		if c := q.conn(); c != nil { // so that the client sees that it is not whole
-			c.Close()
+		if q.conn != nil { // so that the client sees that it is not whole
+			q.conn.Close()
 		}
 	}
 	return nil

@@ -100,11 +100,21 @@ func (a *API) noteFault(answer *noted, to target, fault interface{}) {
 	answer.status = http.StatusInternalServerError
 }
 
+// safeHeaders are made once, since each answer has them. Nobody changes such a value in its place: Set puts another one there.
+var safeHeaders = []struct {
+	name   string
+	values []string
+}{
+	{"X-Content-Type-Options", []string{"nosniff"}},
+	{"Referrer-Policy", []string{"no-referrer"}},
+	{"X-Frame-Options", []string{"DENY"}},
+	{"Content-Security-Policy", []string{"default-src 'none'; frame-ancestors 'none'"}},
+	{"Cache-Control", []string{"no-store"}},
+}
+
 // setSafeHeaders keeps browsers from taking an answer for anything else than it is. (The page has a policy of its own)
 func setSafeHeaders(header http.Header) {
-	header.Set("X-Content-Type-Options", "nosniff")
-	header.Set("Referrer-Policy", "no-referrer")
-	header.Set("X-Frame-Options", "DENY")
-	header.Set("Content-Security-Policy", "default-src 'none'; frame-ancestors 'none'")
-	header.Set("Cache-Control", "no-store")
+	for _, it := range safeHeaders {
+		header[it.name] = it.values
+	}
 }
