@@ -59,38 +59,9 @@ func parse(words []string) (*options, error) {
 	o := &options{}
 	flags := flag.NewFlagSet("lrcmand", flag.ContinueOnError)
 	flags.SetOutput(io.Discard)
-	flags.StringVar(&o.data, "data", "", "`DIR`: folder of this member")
-	flags.StringVar(&o.listen, "listen", "127.0.0.1:7421", "`HOST:PORT`: address for clients")
-	flags.StringVar(&o.listenMetrics, "listen-metrics", "", "`HOST:PORT`: address for health and metrics alone, in the clear")
-	flags.Var(&o.hosts, "host", "`NAME`: a further name by which clients call this member; may come again")
-	flags.Uint64Var(&o.id, "id", 1, "`N`: number of this member")
-	flags.StringVar(&o.members, "members", "", "`N=PEER/CLIENT,..`: the first members, alike on all of them")
-	flags.BoolVar(&o.isNew, "new", false, "the first members begin a new group")
-	flags.StringVar(&o.peer, "peer", "", "`HOST:PORT`: address for the other members")
-	flags.BoolVar(&o.join, "join", false, "this member was added to a group that runs")
-	flags.StringVar(&o.group, "group", "lrcmand", "`NAME`: members of another group are refused")
-	flags.Uint64Var(&o.tick, "tick", 600, "`SECONDS`: time between two ticks by the leader; 0: never")
-	flags.Uint64Var(&o.compare, "compare", 10, "`SECONDS`: time between two books that the members compare; 0: none is")
-	flags.DurationVar(&o.election, "election", time.Second, "`DURATION`: how long a leader may be silent")
-	flags.DurationVar(&o.timeout, "timeout", 10*time.Second, "`DURATION`: how long a request may take")
-	flags.Uint64Var(&o.snapshotEvery, "snapshot-every", 100000, "`N`: entries between snapshots")
-	flags.Uint64Var(&o.snapshotBytes, "snapshot-bytes", 64<<20, "`BYTES`: of entries between snapshots")
-	flags.Uint64Var(&o.trailing, "trailing", 5000, "`N`: entries that stay behind a snapshot")
-	flags.Uint64Var(&o.diskReserve, "disk-reserve", 256<<20, "`BYTES`: changes are refused where the disk has less room; 0: never")
-	flags.Uint64Var(&o.rate, "rate", 0, "`N`: requests a second from one address; 0: any number")
-	flags.StringVar(&o.tokenFile, "token-file", "", "`FILE`: lines of ROLE TOKEN, or ROLE cert=NAME")
-	flags.StringVar(&o.auditFile, "audit-file", "", "`FILE`: what operators ask and who is refused; in the log by default")
-	flags.StringVar(&o.cert, "cert", "", "`FILE`: certificate for clients")
-	flags.StringVar(&o.key, "key", "", "`FILE`: its key")
-	flags.StringVar(&o.clientCA, "client-ca", "", "`FILE`: who signs the certificates of clients")
-	flags.StringVar(&o.peerCert, "peer-cert", "", "`FILE`: certificate for the other members")
-	flags.StringVar(&o.peerKey, "peer-key", "", "`FILE`: its key")
-	flags.StringVar(&o.peerCA, "peer-ca", "", "`FILE`: who signs the certificates of members")
-	flags.Var(&o.peerNames, "peer-name", "`NAME`: a name that a certificate of a member has; it may come again")
-	flags.BoolVar(&o.trustNetwork, "trust-network", false, "allows addresses beyond loopback without tokens or certificates")
-	flags.StringVar(&o.logFormat, "log-format", "text", "`FORM`: lines on standard error are text or json")
-	flags.StringVar(&o.logLevel, "log-level", "info", "`LEVEL`: the least that is written: debug, info, warn or error")
-	flags.BoolVar(&o.version, "version", false, "prints the version of the program, and ends")
+	o.ofMember(flags)
+	o.ofWork(flags)
+	o.ofGuard(flags)
 	if err := usage.Parse(flags, "LRCMAND", words); errors.Is(err, flag.ErrHelp) {
 		return nil, answer(help + usage.List(flags, groups))
 	} else if err != nil {
@@ -103,6 +74,50 @@ func parse(words []string) (*options, error) {
 		return nil, fmt.Errorf("this word is none of the options: %q", flags.Arg(0))
 	}
 	return o, o.check()
+}
+
+// ofMember are the options that say who this member is, and where.
+func (o *options) ofMember(flags *flag.FlagSet) {
+	flags.StringVar(&o.data, "data", "", "`DIR`: folder of this member")
+	flags.StringVar(&o.listen, "listen", "127.0.0.1:7421", "`HOST:PORT`: address for clients")
+	flags.StringVar(&o.listenMetrics, "listen-metrics", "", "`HOST:PORT`: address for health and metrics alone, in the clear")
+	flags.Var(&o.hosts, "host", "`NAME`: a further name by which clients call this member; may come again")
+	flags.Uint64Var(&o.id, "id", 1, "`N`: number of this member")
+	flags.StringVar(&o.members, "members", "", "`N=PEER/CLIENT,..`: the first members, alike on all of them")
+	flags.BoolVar(&o.isNew, "new", false, "the first members begin a new group")
+	flags.StringVar(&o.peer, "peer", "", "`HOST:PORT`: address for the other members")
+	flags.BoolVar(&o.join, "join", false, "this member was added to a group that runs")
+	flags.StringVar(&o.group, "group", "lrcmand", "`NAME`: members of another group are refused")
+}
+
+// ofWork are those of its work: times, entries, bytes and lines.
+func (o *options) ofWork(flags *flag.FlagSet) {
+	flags.Uint64Var(&o.tick, "tick", 600, "`SECONDS`: time between two ticks by the leader; 0: never")
+	flags.Uint64Var(&o.compare, "compare", 10, "`SECONDS`: time between two books that the members compare; 0: none is")
+	flags.DurationVar(&o.election, "election", time.Second, "`DURATION`: how long a leader may be silent")
+	flags.DurationVar(&o.timeout, "timeout", 10*time.Second, "`DURATION`: how long a request may take")
+	flags.Uint64Var(&o.snapshotEvery, "snapshot-every", 100000, "`N`: entries between snapshots")
+	flags.Uint64Var(&o.snapshotBytes, "snapshot-bytes", 64<<20, "`BYTES`: of entries between snapshots")
+	flags.Uint64Var(&o.trailing, "trailing", 5000, "`N`: entries that stay behind a snapshot")
+	flags.Uint64Var(&o.diskReserve, "disk-reserve", 256<<20, "`BYTES`: changes are refused where the disk has less room; 0: never")
+	flags.Uint64Var(&o.rate, "rate", 0, "`N`: requests a second from one address; 0: any number")
+	flags.StringVar(&o.logFormat, "log-format", "text", "`FORM`: lines on standard error are text or json")
+	flags.StringVar(&o.logLevel, "log-level", "info", "`LEVEL`: the least that is written: debug, info, warn or error")
+	flags.BoolVar(&o.version, "version", false, "prints the version of the program, and ends")
+}
+
+// ofGuard are those that say who may ask it.
+func (o *options) ofGuard(flags *flag.FlagSet) {
+	flags.StringVar(&o.tokenFile, "token-file", "", "`FILE`: lines of ROLE TOKEN, or ROLE cert=NAME")
+	flags.StringVar(&o.auditFile, "audit-file", "", "`FILE`: what operators ask and who is refused; in the log by default")
+	flags.StringVar(&o.cert, "cert", "", "`FILE`: certificate for clients")
+	flags.StringVar(&o.key, "key", "", "`FILE`: its key")
+	flags.StringVar(&o.clientCA, "client-ca", "", "`FILE`: who signs the certificates of clients")
+	flags.StringVar(&o.peerCert, "peer-cert", "", "`FILE`: certificate for the other members")
+	flags.StringVar(&o.peerKey, "peer-key", "", "`FILE`: its key")
+	flags.StringVar(&o.peerCA, "peer-ca", "", "`FILE`: who signs the certificates of members")
+	flags.Var(&o.peerNames, "peer-name", "`NAME`: a name that a certificate of a member has; it may come again")
+	flags.BoolVar(&o.trustNetwork, "trust-network", false, "allows addresses beyond loopback without tokens or certificates")
 }
 
 func (o *options) check() error {
@@ -125,6 +140,22 @@ func (o *options) check() error {
 		return errors.New("--disk-reserve is too high")
 	case o.snapshotBytes == 0:
 		return errors.New("--snapshot-bytes is 1 or more")
+	}
+	for _, step := range []func() error{o.checkTogether, o.readLogging, o.readMembers} {
+		if err := step(); err != nil {
+			return err
+		}
+	}
+	var err error
+	if o.rights, err = o.readRights(); err != nil {
+		return err
+	}
+	return o.checkAddresses()
+}
+
+// checkTogether refuses options that don't go together.
+func (o *options) checkTogether() error {
+	switch {
 	case o.join && o.members != "":
 		return errors.New("--members is for the first members, and --join for one that was added")
 	case o.join && o.isNew:
@@ -138,17 +169,7 @@ func (o *options) check() error {
 	case len(o.peerNames) > 0 && o.peerCA == "":
 		return errors.New("--peer-name takes --peer-ca")
 	}
-	if err := o.readLogging(); err != nil {
-		return err
-	}
-	if err := o.readMembers(); err != nil {
-		return err
-	}
-	var err error
-	if o.rights, err = o.readRights(); err != nil {
-		return err
-	}
-	return o.checkAddresses()
+	return nil
 }
 
 // readMembers finds this member and the first ones.
