@@ -1,5 +1,5 @@
 """A book of the library beside a store of the model in tests/rules.py: what both report, and the calls that both make."""
-import coded
+import recipe_rules
 import harness
 import image_text
 import library
@@ -60,12 +60,12 @@ def compare_recipe(book, store, key):
         expect(f"the recipe of {key} without a lease", recipe, None)
         return
     code, missing = store.stripes[key[0]], store.missing(key[0])
-    if not coded.is_known(code, missing, key[1]):
+    if not recipe_rules.is_known(code, missing, key[1]):
         expect(f"the recipe of {key}, which nothing determines", recipe, lrc_embed.Status.UNDETERMINED)
         return
     named = recipe.code, recipe.fragment, bytes(recipe.reserved)
     expect(f"what the recipe of {key} is for", named, (book.code(key[0]).value, key[1], bytes(6)))
-    expect(f"the recipe of {key}, {recipe.sources()}", coded.fault_of(code, missing, key[1], recipe.sources()), None)
+    expect(f"the recipe of {key}, {recipe.sources()}", recipe_rules.fault_of(code, missing, key[1], recipe.sources()), None)
 
 
 def expect(name, found, right):

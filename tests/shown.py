@@ -3,7 +3,7 @@ import copy
 from collections import Counter
 
 import rules
-from coding import read_for
+from field import read_for
 from rules import FRAGMENTS, members
 
 VIEWS = ("status", "stripes", "nodes", "leases", "work")

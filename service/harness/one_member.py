@@ -3,7 +3,7 @@ import os
 import subprocess
 import time
 
-import coded
+import recipe_rules
 import harness
 import rules
 import shown
@@ -52,10 +52,10 @@ def compare_recipe(count, asker, member, book, store, key, further):
     code, missing = store.stripes[stripe], store.missing(stripe) | rules.set_of({*further})
     query = "".join(f"&missing={it}" for it in further)
     status, sources, homes = recipe_of(asker, member, book, f"stripe={stripe}&fragment={fragment}{query}")
-    if not coded.is_known(code, missing, fragment):
+    if not recipe_rules.is_known(code, missing, fragment):
         return count.check(f"{book} {key} without {further}: {status}", status == 409)
     right = {source: shown.home_of(store, stripe, source) for source in sources}
-    is_right = status == 200 and coded.fault_of(code, missing, fragment, sources) is None and homes == right
+    is_right = status == 200 and recipe_rules.fault_of(code, missing, fragment, sources) is None and homes == right
     return count.check(f"{book} {key} without {further}: {status} {sources} {homes}", is_right)
 
 

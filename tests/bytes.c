@@ -1,5 +1,5 @@
-// The matrices, recipes and buffers of lrc_embed.h beside ISA-L. tests/coding builds and runs it.
-// Usage: coding SEED. It prints for each code how many sets can be decoded, how many recipes there are and how many of them read
+// The matrices, recipes and buffers of lrc_embed.h beside ISA-L. tests/bytes builds and runs it.
+// Usage: bytes SEED. It prints for each code how many sets can be decoded, how many recipes there are and how many of them read
 // 3, 6 and 12 fragments, and how many runs over buffers there were. It ends at the first difference, with status 1.
 #include "lrc_embed.h"
 
@@ -23,7 +23,7 @@ static uint64_t state;
 
 static void want(bool holds, int line) {
     if (holds) return;
-    fprintf(stderr, "coding.c:%d: not as wanted\n", line);
+    fprintf(stderr, "bytes.c:%d: not as wanted\n", line);
     exit(1);
 }
 #define WANT(condition) want(condition, __LINE__)

@@ -1,4 +1,4 @@
-// How long recipes take, and how fast parities and fragments are made, by liblrc_embed and by ISA-L. `bench/coding` builds and
+// How long recipes take, and how fast parities and fragments are made, by liblrc_embed and by ISA-L. `bench/bytes` builds and
 // runs it. It prints lines of words and a number: nanoseconds a recipe, or megabytes a second of the data that is read.
 #define _POSIX_C_SOURCE 200809L
 #include "lrc_embed.h"

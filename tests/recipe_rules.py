@@ -1,12 +1,12 @@
-"""What a recipe has to be, by docs/RULES.md, over the rows of tests/coding.py: any program's recipe, whichever it chose."""
-import coding
+"""What a recipe has to be, by docs/RULES.md, over the rows of tests/field.py: any program's recipe, whichever it chose."""
+import field
 
 
 def sum_of(rows, coefficients, width):
     """The sum of rows of this width, each times its coefficient."""
     total = bytes(width)
     for number, coefficient in coefficients.items():
-        total = coding.plus(total, coding.scaled(coefficient, rows[number]))
+        total = field.plus(total, field.scaled(coefficient, rows[number]))
     return total
 
 
@@ -17,7 +17,7 @@ def group_of(code, fragment):
 
 def is_known(code, missing, fragment):
     """Whether what is not missing determines a fragment of the code."""
-    return not missing >> fragment & 1 or coding.determines(code, code.all & ~missing, fragment)
+    return not missing >> fragment & 1 or field.determines(code, code.all & ~missing, fragment)
 
 
 def fault_of(code, missing, fragment, sources):
@@ -26,7 +26,7 @@ def fault_of(code, missing, fragment, sources):
         return None if sources == {fragment: 1} else "what is not missing is copied"
     if any(not code.all >> source & 1 or missing >> source & 1 for source in sources):
         return "it reads what is not there"
-    rows = coding.generator(code)
+    rows = field.generator(code)
     group = group_of(code, fragment)
     if group is not None and not group & missing:
         return None if sources == {source: 1 for source in code.fragments if group >> source & 1} else "it is not its group"
