@@ -3,12 +3,11 @@ import filecmp
 import os
 from collections import namedtuple
 
-import common
-import judging
-import loads
-from common import Wrong
-from harness import read
-from store import Store
+from bench import loads
+from bench.common import Wrong
+from bench.store import Store
+from tests import judging
+from tests.harness import read
 
 Bundle = namedtuple("Bundle", "kind path load lines")
 

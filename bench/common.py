@@ -1,4 +1,4 @@
-"""What the scripts of bench share: the tests' modules, options, and the rows of tables."""
+"""What the scripts of bench share: options, and the rows of tables."""
 import argparse
 import os
 import subprocess
@@ -6,7 +6,6 @@ import sys
 
 HERE = os.path.dirname(os.path.abspath(__file__))
 TOP = os.path.dirname(HERE)
-sys.path.append(os.path.join(TOP, "tests"))
 
 
 class Wrong(Exception):

@@ -1,5 +1,5 @@
 """What fills a store before a load begins. Fragments, nodes and domains are those of the script that is given."""
-from scripts import LAST
+from bench.scripts import LAST
 
 
 def fill(script):

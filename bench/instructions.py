@@ -6,10 +6,10 @@ import subprocess
 from collections import namedtuple
 from functools import cache
 
-import loads
-from bundles import Bundle, check_output
-from common import HERE, Wrong, print_head, print_row
-from rules import MOST_BYTES
+from bench import loads
+from bench.bundles import Bundle, check_output
+from bench.common import HERE, Wrong, print_head, print_row
+from tests.rules import MOST_BYTES
 
 TABLE = os.path.join(HERE, "budget")
 SIZES = [(32, 256), (512, 4096)]

@@ -4,9 +4,9 @@ import string
 from collections import deque
 from itertools import cycle
 
-from fills import fill, groups, home, quarter, sleepers
-from rules import FRAGMENTS, MOST_STRIPES, PLACES
-from scripts import LAST, LONGEST, UPGRADES
+from bench.fills import fill, groups, home, quarter, sleepers
+from bench.scripts import LAST, LONGEST, UPGRADES
+from tests.rules import FRAGMENTS, MOST_STRIPES, PLACES
 
 LIVE = 40000  # the leases of `ticks` that are live at once, where there are as many stripes as there can be
 PLACES = list(PLACES)

@@ -7,12 +7,11 @@ import pickle
 from collections import Counter, namedtuple
 from functools import lru_cache
 
-import fills
-import kinds
-from fills import fill
-from harness import bundle_of, topology_of
-from rules import MOST_SLOTS, Node
-from scripts import UPGRADES, Full, Part, Script
+from bench import fills, kinds
+from bench.fills import fill
+from bench.scripts import UPGRADES, Full, Part, Script
+from tests.harness import bundle_of, topology_of
+from tests.rules import MOST_SLOTS, Node
 
 FAULTS = 32  # domains
 

@@ -1,8 +1,8 @@
 """Scripts as they are written line by line: the only one of a bundle, with the replies of the rules, or one of several."""
 import random
 
-from rules import FRAGMENTS
-from store import Store
+from bench.store import Store
+from tests.rules import FRAGMENTS
 
 UPGRADES = 16  # domains
 SESSION = 1  # of every call of a bundle with one script

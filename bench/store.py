@@ -4,9 +4,8 @@ No rule stands here: a method answers a question of the rules from an index, or 
 from collections import defaultdict
 from itertools import chain
 
-import common  # (so that the modules of tests are found)
-import rules
-from rules import least, members, set_of
+from tests import rules
+from tests.rules import least, members, set_of
 
 
 class Fragments:

@@ -3,12 +3,10 @@ same fault, or begin in the same state."""
 import re
 from collections import Counter
 
-import draws
-import harness
-import rules
-from comparing import Differs, begun_in_book, begun_in_model, compare, expect, make
-from draws import is_seldom, one_of
-from rules import Cause, Node
+from tests import draws, harness, rules
+from tests.comparing import Differs, begun_in_book, begun_in_model, compare, expect, make
+from tests.draws import is_seldom, one_of
+from tests.rules import Cause, Node
 
 TWENTY = harness.nodes_in_order(20, 16)
 UNEVEN = {(i * 7) % 23 * 3: Node(i % 17, i % 9, 2 + i % 5) for i in range(22)}

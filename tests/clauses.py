@@ -7,7 +7,7 @@ import hashlib
 import os
 import re
 
-from harness import TOP
+from tests.harness import TOP
 
 TOKEN = re.compile(r"""//[^\n]*|b?"(?:\\.|[^"\\])*"|b?'(?:\\[^']+|[^'\\])'|[A-Za-z_]\w*|\d\w*|\s+|.""", re.S)
 CLAUSE = re.compile(r"\b(?:ensures|requires)(?: \w+)?\Z|\bghost \w+ [:=]\Z")

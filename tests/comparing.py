@@ -1,11 +1,6 @@
 """A book of the library beside a store of the model in tests/rules.py: what both report, and the calls that both make."""
-import recipe_rules
-import harness
-import image_text
-import library
-import rules
-import walked
-from library import lrc_embed
+from tests import harness, image_text, library, recipe_rules, rules, walked
+from tests.library import lrc_embed
 
 FRAGMENTS = range(lrc_embed.FRAGMENTS)
 STRIPES = 24

@@ -4,7 +4,7 @@ A row is the coefficients of a fragment, one for each data fragment, as bytes. A
 for each member, as in tests/rules.py."""
 from functools import cache
 
-from rules import members
+from tests.rules import members
 
 MODULUS = 0x11D  # x^8 + x^4 + x^3 + x^2 + 1
 

@@ -1,4 +1,6 @@
 """What the tests share: the count of checks, the programs under test, and the reading and writing of bundles."""
+import functools
+import importlib.util
 import os
 import re
 import shutil
@@ -6,7 +8,7 @@ import subprocess
 import sys
 import tomllib
 
-from rules import Node
+from tests.rules import Node
 
 TESTS = os.path.dirname(os.path.abspath(__file__))
 TOP = os.path.dirname(TESTS)
@@ -54,13 +56,26 @@ class Count:
 
 def stop(why):
     """Ends a test that can't be run."""
-    print(f"tests/{os.path.basename(sys.argv[0])}: {why}")
+    print(f"{os.path.splitext(os.path.relpath(sys.argv[0], TOP))[0]}: {why}")
     print("0 passed, 1 failed")
     sys.exit(1)
 
 
 # Programs.
 
+
+@functools.cache
+def loaded(path, name=None):
+    """The module of a file that runs alone, an example's say, by its own name or this one; what it imports is loaded before it."""
+    name = name or os.path.splitext(os.path.basename(path))[0]
+    spec = importlib.util.spec_from_file_location(name, path)
+    sys.modules[name] = importlib.util.module_from_spec(spec)
+    try:
+        spec.loader.exec_module(sys.modules[name])
+    except BaseException:
+        del sys.modules[name]
+        raise
+    return sys.modules[name]
 
 def program_of(words, name="lrcman"):
     """The program under test: the first word of the command line, or what was built in the crate of this name."""

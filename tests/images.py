@@ -2,9 +2,9 @@
 taken over. The texts of the documents are those that are tried here."""
 import re
 
-import harness
-from harness import TOP, Node
-from library import command_of
+from tests import harness
+from tests.harness import TOP, Node
+from tests.library import command_of
 from lrc_embed import Book, Cause, Command, CommandKind, Fault, ModeKind, Status
 
 TWENTY = harness.nodes_in_order(20, 4)

@@ -8,7 +8,8 @@ import functools
 import os
 import shutil
 import subprocess
-import sys
+
+from tests.harness import loaded
 
 NEEDED = "KIT RATTLE KEPT PARTS crates_below sum_of text_of Crate.below Crate.words Crate.stamp Crate.is_built".split()
 
@@ -22,9 +23,7 @@ def module():
     folder = os.path.dirname(os.path.realpath(rt))
     if not os.path.isfile(f"{folder}/rtlib.py"):
         raise ImportError(f"there is no {folder}/rtlib.py")
-    sys.path.insert(0, folder)
-    import rtlib
-
+    rtlib = loaded(f"{folder}/rtlib.py")
     for name in NEEDED:
         owner, _, part = name.rpartition(".")
         if not hasattr(getattr(rtlib, owner, None) if owner else rtlib, part):

@@ -1,13 +1,12 @@
 """Commands for a book of the library, and what it reports, as the texts of the model in tests/rules.py."""
 import os
-import sys
 from collections import namedtuple
 
-from harness import CC, EXAMPLES
+from tests.harness import CC, EXAMPLES, loaded
 
-sys.path.append(os.path.join(EXAMPLES, "stores"))
-from commands import FIELDS, command_of, lrc_embed  # noqa: F401
-
+lrc_embed = loaded(f"{EXAMPLES}/embed/lrc_embed.py")
+commands = loaded(f"{EXAMPLES}/stores/commands.py")
+FIELDS, command_of = commands.FIELDS, commands.command_of
 
 # A library of another version, which has nothing else: the shared library, its folder, and the words by which a program that is
 # linked with the library itself calls the other version.

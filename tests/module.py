@@ -6,8 +6,8 @@ import gc
 import struct
 from itertools import islice
 
-from harness import nodes_in_order, topology_of
-from library import command_of
+from tests.harness import nodes_in_order, topology_of
+from tests.library import command_of
 from lrc_embed import (RULES_VERSION, VERSION, Book, Cause, Code, Command, CommandKind, Entry, Fault, ModeKind, OtherVersion,
                        Outage, Status, encode, matrix, name_of, recipe_of, rules_version)
 

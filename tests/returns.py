@@ -7,10 +7,9 @@ import copy
 import time
 from collections import Counter
 
-import draws
-import shown
-from draws import numbers, one_of
-from rules import Node, Store
+from tests import draws, shown
+from tests.draws import numbers, one_of
+from tests.rules import Node, Store
 
 SEEDS, FRESH, STATES = 1_000, 100, 3  # the stores that are the same each time, the others, and the states that each comes to
 COMMANDS, TROUBLE, RETURNS = 30, 12, 10  # before the first state; before each one; after it

@@ -8,7 +8,7 @@ from collections import Counter, namedtuple
 from enum import IntEnum
 from functools import cache
 
-import image_text
+from tests import image_text
 
 FRAGMENTS = range(16)  # what a command may name, whatever the code of its stripe
 MOST_STRIPES, MOST_SLOTS, MOST_BYTES = 4096, 256, 4_194_304

@@ -2,9 +2,9 @@
 import copy
 from collections import Counter
 
-import rules
-from field import read_for
-from rules import FRAGMENTS, members
+from tests import rules
+from tests.field import read_for
+from tests.rules import FRAGMENTS, members
 
 VIEWS = ("status", "stripes", "nodes", "leases", "work")
 HOMES = [f"home_{fragment}" for fragment in FRAGMENTS]

@@ -7,9 +7,9 @@ import signal
 import time
 from collections import Counter
 
-import harness
-from library import lrc_embed
-from store_requests import Running, check_other_version, compile_store, left_out, model_of, next_version
+from tests import harness
+from tests.library import lrc_embed
+from tests.store_requests import Running, check_other_version, compile_store, left_out, model_of, next_version
 
 HEADERS = ("/usr/include/postgresql", "/usr/include")
 SLOTS = 10240  # of each node, shared out among the books

@@ -6,15 +6,11 @@ import sys
 from itertools import combinations
 from xml.etree import ElementTree
 
-import harness
-import rules
-from store_requests import STORES, check_other_version, compile_store, next_version
+from tests import harness, rules
+from tests.store_requests import STORES, check_other_version, compile_store, next_version
 
 FOLDER = os.path.join(STORES, "durability")
-sys.path.append(FOLDER)
-import closed_form
-import picture
-import table
+closed_form, picture, table = (harness.loaded(f"{FOLDER}/{name}.py") for name in ("closed_form", "picture", "table"))
 
 CODES = {"wide": rules.WIDE, "narrow": rules.NARROW}
 # A simulation counts enough if its standard error is at most this part of the closed form. Then it has to be as near to that

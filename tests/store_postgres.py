@@ -3,12 +3,15 @@ import glob
 import os
 import shutil
 import subprocess
-import sys
 import time
 
-from store_requests import STORES
+from tests.harness import loaded
+from tests.store_requests import STORES
 
-sys.path.append(os.path.join(STORES, "standby"))
+
+def pq():
+    """The module of libpq; OSError where that is not on this machine."""
+    return loaded(os.path.join(STORES, "standby", "pq.py"))
 
 
 def binary(name):
@@ -28,7 +31,7 @@ def why_not(room):
         if subprocess.run(["test", "-x", room], user="postgres").returncode:
             return f"the user postgres can't reach {room}"
     try:
-        import pq  # noqa: F401
+        pq()
     except OSError:
         return "libpq.so.5 is not on this machine"
     return None
@@ -66,12 +69,10 @@ class Server:
 
     def connect(self, database="postgres"):
         """A connection, once the server takes one."""
-        import pq
-
         for _ in range(300):
             try:
-                return pq.Connection(self.words_of(database))
-            except pq.Error:
+                return pq().Connection(self.words_of(database))
+            except pq().Error:
                 time.sleep(0.1)
         raise TimeoutError("PostgreSQL takes no connection")
 

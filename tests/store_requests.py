@@ -8,14 +8,10 @@ import threading
 import time
 import zlib
 
-import draws
-import harness
-import rules
-from comparing import STRIPES, Differs, compare
-from library import FIELDS, command_of, lrc_embed, of_version
-
-sys.path.append(os.path.join(harness.TOP, "bench"))
-import store  # the model with indexes, so that thousands of calls take seconds
+from bench import store  # the model with indexes, so that thousands of calls take seconds
+from tests import draws, harness, rules
+from tests.comparing import STRIPES, Differs, compare
+from tests.library import FIELDS, command_of, lrc_embed, of_version
 
 STORES = os.path.join(harness.EXAMPLES, "stores")
 INCLUDE = f"{harness.TOP}/crates/lrc_embed/include"

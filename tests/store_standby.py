@@ -1,6 +1,5 @@
 """A primary and its standbys over PostgreSQL, while primaries are killed, cut off, and stopped for a while."""
 import ctypes
-import importlib.util
 import os
 import select
 import signal
@@ -9,9 +8,10 @@ import time
 import zlib
 from statistics import median
 
-import draws
-from library import command_of, lrc_embed
-from store_requests import STORES, TOPOLOGY, Requests, Running, check_other_version, next_version, pause
+from tests import draws
+from tests.harness import loaded
+from tests.library import command_of, lrc_embed
+from tests.store_requests import STORES, TOPOLOGY, Requests, Running, check_other_version, next_version, pause
 
 STORE = os.path.join(STORES, "standby", "store.py")
 EPOCH = lrc_embed.Entry.reply.offset + lrc_embed.Reply.lease.offset + lrc_embed.Lease.epoch.offset
@@ -19,14 +19,6 @@ WAYS = ("killed", "cut off", "stopped")
 CUT = ("SELECT pg_terminate_backend(pid) FROM pg_locks WHERE locktype = 'advisory' AND granted"
        " AND objid::int8 = (SELECT term FROM lead)"
        " AND database = (SELECT oid FROM pg_database WHERE datname = current_database())")
-
-
-def module_of(path, name):
-    """A script as a module of this name."""
-    spec = importlib.util.spec_from_file_location(name, path)
-    module = importlib.util.module_from_spec(spec)
-    spec.loader.exec_module(module)
-    return module
 
 
 class Cluster:
@@ -156,7 +148,7 @@ def test_versions(count, cluster):
 
 def test_append_under_way(count, cluster):
     """While an append is not committed yet, no new term begins. Then the next primary has its entry."""
-    standby_store = module_of(STORE, "standby_store")
+    standby_store = loaded(STORE, "standby_store")  # (it imports pq, which the connection above has loaded)
     primary = standby_store.Replica(standby_store.pq.Connection(cluster.words), ctypes.CDLL(cluster.library))
     count.check("standby: the first term", primary.tries_to_lead(at_once=False) and primary.term == 1)
     primary.connection.rows("BEGIN")

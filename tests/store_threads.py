@@ -8,12 +8,10 @@ import struct
 import subprocess
 import zlib
 
-import draws
-import rules
-from harness import read, topology_of
-from library import lrc_embed
-from store_requests import (CXX, Running, check_other_version, compile_store, left_out, model_of, next_version,
-                            pause)
+from tests import draws, rules
+from tests.harness import read
+from tests.library import lrc_embed
+from tests.store_requests import CXX, Running, check_other_version, compile_store, left_out, model_of, next_version, pause
 
 HEADER, RECORD = struct.Struct("<QII"), struct.Struct("<QQ128sII")
 REPLY = lrc_embed.Entry.reply.offset

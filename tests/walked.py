@@ -3,8 +3,8 @@ tests/rules.py."""
 import copy
 from collections import Counter
 
-import library
-from library import lrc_embed
+from tests import library
+from tests.library import lrc_embed
 
 FRAGMENTS = range(lrc_embed.FRAGMENTS)
 

@@ -3,14 +3,13 @@ import concurrent.futures
 import http.client
 import multiprocessing
 import statistics
-import threading
 import time
 
-import harness
-from cluster import Asker, Group
-from etcds import resident
-from rules import Node
-from work import make_books
+from service.harness.cluster import Asker, Group
+from service.harness.etcds import resident
+from service.harness.work import make_books
+from tests import harness
+from tests.rules import Node
 
 MEBIBYTE = 1 << 20
 MOST_RESIDENT = 300

@@ -3,10 +3,10 @@ import os
 import random
 import time
 
-from certificates import Authority, NoOpenssl
-from cluster import Group
-from makers import Maker
-from work import Run, Work, make_books
+from service.harness.certificates import Authority, NoOpenssl
+from service.harness.cluster import Group
+from service.harness.makers import Maker
+from service.harness.work import Run, Work, make_books
 
 
 class Chaos:

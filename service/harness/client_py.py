@@ -11,17 +11,18 @@ import time
 from collections import Counter
 from concurrent.futures import ThreadPoolExecutor
 
-import rules
-from certificates import Authority, NoOpenssl
-from cluster import Asker, Group, Member
-from fake_group import FAULTS, NOTHING, FakeGroup
-from harness import example, parts_of, split, topology_of
-from network import Network, ways_between
-from one_member import wait_ready
+from service.harness.certificates import Authority, NoOpenssl
+from service.harness.cluster import Asker, Group, Member
+from service.harness.fake_group import FAULTS, NOTHING, FakeGroup
+from service.harness.network import Network, ways_between
+from service.harness.one_member import wait_ready
+from tests import rules
+from tests.harness import TOP, example, loaded, parts_of, split, topology_of
 
-HERE = os.path.dirname(os.path.abspath(__file__))
-sys.path.append(os.path.join(os.path.dirname(HERE), "client"))
-from lrcmand_client import Client, KeyForgotten, LrcmandError, OutcomeUnknown, StatusError  # noqa: E402
+SERVICE = os.path.join(TOP, "service")
+lrcmand_client = loaded(f"{SERVICE}/client/lrcmand_client.py")
+Client, KeyForgotten, LrcmandError = lrcmand_client.Client, lrcmand_client.KeyForgotten, lrcmand_client.LrcmandError
+OutcomeUnknown, StatusError = lrcmand_client.OutcomeUnknown, lrcmand_client.StatusError
 
 
 def outcome_of(client, command="tick", **how):
@@ -456,7 +457,7 @@ def compare_rights(count, servers, ca, other_ca):
 
 def examples():
     """The examples of the section of clients, by language."""
-    with open(os.path.join(os.path.dirname(os.path.dirname(HERE)), "docs/SERVICE.md"), encoding="utf-8") as file:
+    with open(os.path.join(TOP, "docs/SERVICE.md"), encoding="utf-8") as file:
         part = file.read().split("\n## Clients\n")[1].split("\n## ")[0]
     return dict(re.findall(r"^```(\w+)\n(.*?)^```$", part, re.DOTALL | re.MULTILINE))
 
@@ -470,10 +471,10 @@ def run_example(count, library, room, language, text, env):
             file.write(content)
     program = f"{folder}/example"
     if language == "go":
-        count.run("the example of Go", os.path.join(os.path.dirname(HERE), "go"), "--library", library, "build", "-o", program,
+        count.run("the example of Go", os.path.join(SERVICE, "go"), "--library", library, "build", "-o", program,
                   f"{folder}/main.go")
     words = [program] if language == "go" else [sys.executable, "main.py"]
-    env = {**os.environ, **env, "PYTHONPATH": os.path.join(os.path.dirname(HERE), "client"), "PYTHONDONTWRITEBYTECODE": "1"}
+    env = {**os.environ, **env, "PYTHONPATH": os.path.join(SERVICE, "client"), "PYTHONDONTWRITEBYTECODE": "1"}
     return (count.run(f"the example of {language}", *words, cwd=folder, env=env) or "").splitlines()
 
 

@@ -6,12 +6,11 @@ import os
 import re
 import time
 
-import harness
-import rules
-from clients import Caller
-from cluster import Asker, Group
-from damaged import change_byte
-from disks import Disks, NoDisk
+from service.harness.clients import Caller
+from service.harness.cluster import Asker, Group
+from service.harness.damaged import change_byte
+from service.harness.disks import Disks, NoDisk
+from tests import harness, rules
 
 BOOK = "p0"
 ROUNDS, CALLS = 4, 25  # of a run: calls, and then a snapshot

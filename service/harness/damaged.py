@@ -6,11 +6,10 @@ import shutil
 import subprocess
 import time
 
-import harness
-import rules
-from clients import Caller
-from cluster import Asker, Group, Member
-from one_member import wait_ready
+from service.harness.clients import Caller
+from service.harness.cluster import Asker, Group, Member
+from service.harness.one_member import wait_ready
+from tests import harness, rules
 
 BOOK = "p0"
 CALLS = 130

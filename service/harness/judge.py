@@ -2,8 +2,8 @@
 from bisect import bisect_left
 from collections import defaultdict
 
-import rules
-from unkeyed import is_unkeyed
+from service.harness.unkeyed import is_unkeyed
+from tests import rules
 
 
 def judge(nodes, logs, told, looks, ticks=False):

@@ -13,9 +13,9 @@ import subprocess
 import threading
 import time
 
-import harness
-from cluster import Asker, Group, Member, free_port
-from one_member import wait_ready
+from service.harness.cluster import Asker, Group, Member, free_port
+from service.harness.one_member import wait_ready
+from tests import harness
 
 CONNECTIONS = 5000
 JSON = {"Content-Type": "application/json"}

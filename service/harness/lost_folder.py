@@ -5,9 +5,9 @@ import shutil
 import threading
 import time
 
-import harness
-from cluster import Asker, Group
-from work import asked_for, make_books
+from service.harness.cluster import Asker, Group
+from service.harness.work import asked_for, make_books
+from tests import harness
 
 BOOK, CALLS = "p0", 20
 WORDS = ["--election", "500ms", "--tick", "0"]

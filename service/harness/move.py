@@ -1,8 +1,7 @@
 """A book moves from one member alone to another, by the steps of docs/SERVICE.md, and goes on there as it was."""
-import harness
-import rules
-from cluster import Asker, Group, Member
-from one_member import wait_ready
+from service.harness.cluster import Asker, Group, Member
+from service.harness.one_member import wait_ready
+from tests import harness, rules
 
 EXAMPLES = ["every_reply", "lease_ends", "rolling_upgrade", "narrow_stripe_placed_anew"]
 

@@ -4,12 +4,12 @@ import json
 import threading
 import time
 
-import harness
-from cluster import Asker, Group, Member
-from network import Network
-from one_member import wait_ready
-from rules import Node
-from work import asked_for
+from service.harness.cluster import Asker, Group, Member
+from service.harness.network import Network
+from service.harness.one_member import wait_ready
+from service.harness.work import asked_for
+from tests import harness
+from tests.rules import Node
 
 BOOK, ELECTION = "p0", 0.5
 WORDS = ["--election", f"{ELECTION}s", "--tick", "0", "--compare", "1", "--timeout", "20s"]

@@ -3,11 +3,8 @@ import os
 import subprocess
 import time
 
-import recipe_rules
-import harness
-import rules
-import shown
-from cluster import Asker, Group, Member
+from service.harness.cluster import Asker, Group, Member
+from tests import harness, recipe_rules, rules, shown
 
 
 def wait_ready(asker, member, limit=10):

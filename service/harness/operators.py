@@ -8,9 +8,9 @@ import subprocess
 import threading
 import time
 
-import harness
-from cluster import Asker, Group, Member
-from one_member import wait_ready
+from service.harness.cluster import Asker, Group, Member
+from service.harness.one_member import wait_ready
+from tests import harness
 
 ELECTION, BOOK = 1.0, "p0"
 WORDS = ["--election", f"{ELECTION}s", "--tick", "0"]

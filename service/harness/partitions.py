@@ -2,11 +2,11 @@
 import random
 import time
 
-import harness
-from clients import Told
-from cluster import Asker, Group
-from network import CLIENT, Network, ways_between
-from work import BOOKS, LEAST, Run, Work, make_books
+from service.harness.clients import Told
+from service.harness.cluster import Asker, Group
+from service.harness.network import CLIENT, Network, ways_between
+from service.harness.work import BOOKS, LEAST, Run, Work, make_books
+from tests import harness
 
 WORDS = ["--election", "500ms", "--snapshot-every", "150", "--trailing", "20", "--tick", "0", "--timeout"]
 

@@ -3,10 +3,10 @@ import random
 import time
 from collections import Counter
 
-import harness
-from cluster import Group
-from disks import Disks, NoDisk
-from work import LEAST, Run, Work, make_books
+from service.harness.cluster import Group
+from service.harness.disks import Disks, NoDisk
+from service.harness.work import LEAST, Run, Work, make_books
+from tests import harness
 
 WORDS = ["--election", "400ms", "--snapshot-every", "60", "--trailing", "10", "--tick", "0"]
 

@@ -1,0 +1,1 @@
+../../service/client/lrcmand_client.py

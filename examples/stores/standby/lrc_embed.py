@@ -1,0 +1,1 @@
+../../embed/lrc_embed.py

@@ -1,0 +1,252 @@
+"""Tests lrcmand: its Go, and processes of it on loopback.
+
+Usage: service/test [--long] [--library FOLDER], where FOLDER has what examples/embed/build makes; by default examples/embed/out
+
+- gofmt, go vet and staticcheck find nothing; the tests of each package pass with the race detector.
+- One member: it is ready within a second, is killed and goes on; its tables are those of tests/shown.py, byte for byte.
+- What an operator sees: versions and options, a start, an end under load without an election, what systemd is told.
+- A book moves from one member to another, call by call as the model has it.
+- Members at addresses where nobody listens don't strand a group, and changes that would are refused; a backup under load is restored,
+  and a member goes on alone when the others are lost; the recipes of the page for all this are run word for word.
+- Thousands of connections, bodies and requests by chance leave health and calls as they were; pages of elsewhere command nothing; each
+  role, name and book has its rights over TLS.
+- Three members and more, of which some are killed, stopped, woken, added and removed while clients call, look and read logs. Each
+  told reply stands in the log of its book, in each client's order, none twice; no look is older than it says; the log is a
+  history of tests/rules.py, and all members have its image in the end. Ten seconds, or two minutes with --long, which makes
+  the other runs longer too: ten minutes in all.
+- service/measure --quick has all its rows, and each reply that is told in it is an entry.
+- The clients of Go and of Python make each call at most once, and tell what came of it rightly: over a fake group that does what
+  goes wrong, and over members that are killed and cut off while a book forgets its keys. Their examples run as they stand.
+- Members speak over links that hang, lose one direction, are late or are reset, and answers to clients break off: all the same
+  has to hold. A leader that only clients reach tells nothing, and has no look as of now; the others go on without it.
+- One byte of a folder is changed, of each kind of file: the member ends with a word, or goes on as the model has it. A folder of
+  another number or another group is refused.
+- A strange hand sends the port of members 2,400 requests that no member sends, and opens 1,200 connections: the group serves calls
+  meanwhile, has no other entry, and stays in its term. A folder that was emptied, that of another member and an older copy are
+  refused by name, and every call that was told is there; a web server at the address of a member that is down ends nobody.
+- What is told of calls is so, also where a member hears nothing of its leader, its words are lost and keys are forgotten, or where
+  two of three members are gone: 200 is made once, 503 never, 504 at most once. A member that was stopped makes up for no ticks.
+- Members stay small however large the entries of their log are, and a call waits for few of the looks at its book.
+- With --long, members whose time of day jumps by hours, as their answers show, do as the others.
+- The disk of a member is full: it ends with a word, and goes on when there is room again.
+- Members lose power, one or all at once: their folders are on disks in memory that know what was synced, and what was not is
+  lost, torn or kept. All the same has to hold. A program that does not sync its log, or not its names, is found.
+- Members end before each step of a snapshot that is written or that comes, and of a log that is cut, by kills and by power cuts:
+  each start has all that was told. A part of the steps, by a seed, or all with --long.
+- A program that tells before it has committed, and one that tells a wrong age, are found by the same.
+- A group goes from one version of the rules to the next, and a program of the one before ends with a word.
+
+What this machine lacks is printed and left out. The last line is 'N passed, M failed'."""
+import os
+import shutil
+import signal
+import subprocess
+import sys
+import tempfile
+import time
+
+from service.harness.bytes_and_looks import test_bytes, test_calls_beside_looks
+from service.harness.chaos import chaos
+from service.harness.client_py import test_clients, test_examples, test_looks, test_python_client, test_tls
+from service.harness.clocks import NoClock, build_jumping, hours_away
+from service.harness.crash_points import test_crash_points
+from service.harness.damaged import test_damage, test_other_folders
+from service.harness.full_disk import test_full_disk
+from service.harness.limits import test_limits
+from service.harness.lost_folder import test_lost_folders
+from service.harness.members import test_members
+from service.harness.move import test_move
+from service.harness.onceonly import test_once_only
+from service.harness.one_member import test_one_member
+from service.harness.operators import test_operators
+from service.harness.partitions import test_network
+from service.harness.powercuts import test_power_cuts
+from service.harness.strangers import test_strangers
+from service.harness.versions import test_versions
+from service.harness.work import LEAST
+from tests import harness
+from tests.harness import TOP, Count
+from tests.rules import Node
+
+SERVICE = os.path.join(TOP, "service")
+SECONDS, LONG, MOST_RUNS = 10, 120, 10
+# Few slots, and few domains: so that places, leases and upgrades are refused too.
+NODES = {number: Node(number % 12, number % 10, 6) for number in range(24)}
+
+
+def left_out(what, why):
+    print(f"left out: {what}: {why}", flush=True)
+
+
+def go(library, words):
+    """Runs a line of shell with what Go needs."""
+    line = f'. "{SERVICE}/go-env" && go_env "{library}" && {words}'
+    return subprocess.run(["bash", "-c", line], capture_output=True, text=True, cwd=SERVICE, timeout=900)
+
+
+def what_go_lacks(library):
+    ran = subprocess.run(["bash", "-c", f'. "{SERVICE}/go-env" && missing_for_go "{library}"'], capture_output=True, text=True)
+    return ran.stdout.strip()
+
+
+def expect_quiet(count, name, ran):
+    said = (ran.stdout + ran.stderr).strip()
+    count.check(f"{name}: {said[-2000:]}", ran.returncode == 0 and not said)
+
+
+def test_go(count, library):
+    expect_quiet(count, "gofmt", go(library, "gofmt -l client cmd internal harness"))
+    expect_quiet(count, "go vet", go(library, "go vet $(go_packages) && go vet -tags faulty $(go_packages)"))
+    program = next((it for it in ("staticcheck", "go-staticcheck") if shutil.which(it)), None)
+    if program:
+        expect_quiet(count, "staticcheck", go(library, f"{program} $(go_packages)"))
+    else:
+        left_out("staticcheck", "there is none: Debian's go-staticcheck has it")
+    ran = go(library, "go test -race -count=1 $(go_packages)")
+    for line in ran.stdout.splitlines():
+        words = line.split()
+        if words[:1] == ["ok"] or words[:1] == ["FAIL"] and len(words) > 1:
+            count.check(f"go test {words[1]}: {ran.stdout[-4000:]}", words[0] == "ok")
+    count.check(f"go test: {ran.stdout[-4000:]} {ran.stderr[-2000:]}", ran.returncode == 0)
+
+
+def build(count, library, file, tags=""):
+    how = {"env": {**os.environ, "GO_TAGS": tags}}
+    return count.run("service/build", os.path.join(SERVICE, "build"), "--library", library, file, **how)
+
+
+def test_cuts(count, library, room, is_long):
+    if not go(library, "go_fuse_packages").stdout:
+        left_out("power cuts", "there is no package go-fuse: Debian's golang-github-hanwen-go-fuse-dev has it")
+        return
+    expect_quiet(count, "go vet powercut", go(library, "go vet $(go_fuse_packages)"))
+    ran = go(library, f"go test -count=1 $(go_fuse_packages) && go build -o {room}/powercut $(go_fuse_packages)")
+    if count.check(f"powercut: {ran.stdout[-2000:]} {ran.stderr[-2000:]}", ran.returncode == 0):
+        programs = [f"{room}/{name}" for name in ("lrcmand", "faulty", "powercut")]
+        test_power_cuts(count, *programs, room, NODES, 25 if is_long else 4, is_long)
+        test_crash_points(count, *programs[1:], room, NODES, is_long)
+
+
+def test_chaos(count, program, room, is_long):
+    seed = int(time.time())
+    run = chaos(program, f"{room}/chaos", NODES, harness.topology_of(NODES), LONG if is_long else SECONDS, seed)
+    print(f"members come and go, seed {seed}: {run}", flush=True)
+    count.add(run.told + run.looks + run.entries - min(len(run.faults), run.told), run.faults)
+    happened = run.told >= LEAST, run.looks >= LEAST, run.acts.get("killed"), run.acts.get("stopped")
+    count.check(f"something happened: {run}", all(happened))
+
+
+def expect_jumps(count, room):
+    """The time of day of the one program jumps, and that of the other does not."""
+    jumping, still = (hours_away(f"{room}/{name}", f"{room}/hours-{name}") for name in ("jumping", "lrcmand"))
+    count.check(f"a time of day that jumps is hours away: {jumping}", len(set(jumping)) > 3)
+    count.check(f"a time of day that does not: {still}", set(still) == {0})
+
+
+def test_clocks(count, library, room):
+    """Members whose time of day jumps do as the others."""
+    try:
+        is_built = build_jumping(count, os.path.join(SERVICE, "build"), library, room, f"{room}/jumping")
+    except NoClock as why:
+        left_out("a time of day that jumps", why)
+        return
+    if is_built:
+        expect_jumps(count, room)
+        seed = int(time.time())
+        run = chaos(f"{room}/jumping", f"{room}/clocks", NODES, harness.topology_of(NODES), 30, seed)
+        print(f"members whose time of day jumps, seed {seed}: {run}", flush=True)
+        count.add(max(run.told + run.looks + run.entries - len(run.faults), 0), run.faults)
+        count.check(f"something happened: {run}", run.told >= LEAST and run.looks > 0)
+
+
+def run_faulty(faulty, room, fault, seed):
+    how = {"env": {"LRCMAND_FAULT": fault}, "is_quiet": True, "lookers": 4}
+    return chaos(faulty, f"{room}/{fault}{seed}", NODES, harness.topology_of(NODES), 3, seed, **how)
+
+
+def test_faulty(count, faulty, room):
+    """What must be found is found, in one run of several: a look that says it is new is often new."""
+    for fault, words in (("early", "told"), ("fresh", "a look of age 0")):
+        for seed in range(1, MOST_RUNS + 1):
+            run = run_faulty(faulty, room, fault, seed)
+            is_found = any(words in it for it in run.faults)
+            if is_found:
+                break
+        count.check(f"a program that is {fault} is found in {MOST_RUNS} runs: {run} {run.faults[:3]}", is_found)
+    run = run_faulty(faulty, room, "none", 1)
+    count.check(f"without a fault nothing is found: {run.faults[:3]}", not run.faults)
+
+
+# How the rows of service/measure begin.
+ROWS = ["1 ", "8 ", "64 ", "256 ", "lrcmand ", "no book ", "64 books without", "64 books of 4 ", "80 books without",
+        "2,560 calls in", "a snapshot in", "1 of", "2 of", "4 of"]
+
+
+def test_measure(count, library):
+    told = count.run("service/measure", os.path.join(SERVICE, "measure"), "--quick", "--library", library)
+    lines = (told or "").splitlines()
+    for row in ROWS:
+        count.check(f"service/measure has no row {row!r}: {told}", any(line.startswith(row) for line in lines))
+    for line in lines:
+        if line.startswith("left out"):
+            print(line, flush=True)
+
+
+def test_both_clients(count, program, library, room):
+    test_python_client(count)
+    test_looks(count, program, room)
+    test_tls(count, program, room)
+    test_examples(count, program, library, room)
+    expect_quiet(count, "caller", go(library, f"go build -o {room}/caller lrcman/service/harness/caller"))
+    test_clients(count, program, f"{room}/caller", room, NODES)
+
+
+def test_disks_and_links(count, program, faulty, room, is_long):
+    test_damage(count, program, room, NODES, 30 if is_long else 3)
+    test_other_folders(count, program, room, NODES)
+    test_lost_folders(count, program, room, NODES)
+    test_strangers(count, program, room, NODES)
+    test_full_disk(count, faulty, room, NODES)
+    test_network(count, program, faulty, room, NODES, 60 if is_long else 6)
+
+
+def main(words):
+    is_long = "--long" in words
+    words = [word for word in words if word != "--long"]
+    library = os.path.join(TOP, "examples/embed/out")
+    if len(words) == 2 and words[0] == "--library":
+        library = os.path.abspath(words[1])
+    elif words:
+        print(f"service/test: this word is none of the options: {words[0]}", "0 passed, 1 failed", sep="\n")
+        return 1
+    count = Count()
+    if lacking := what_go_lacks(library):
+        left_out("all of it", lacking)
+        return count.report()
+    signal.signal(signal.SIGTERM, lambda *_: sys.exit(1))  # (so that processes and mounts end with it)
+    with tempfile.TemporaryDirectory() as room:
+        test_go(count, library)
+        program, faulty = f"{room}/lrcmand", f"{room}/faulty"
+        if build(count, library, program) and build(count, library, faulty, "faulty"):
+            test_one_member(count, program, room)
+            test_move(count, program, room)
+            test_members(count, program, room, NODES)
+            test_once_only(count, program, faulty, room, NODES)
+            test_operators(count, program, faulty, room, NODES)
+            test_bytes(count, program, room, NODES, 400 if is_long else 130)
+            test_calls_beside_looks(count, program, room, NODES)
+            test_limits(count, program, room, NODES)
+            test_chaos(count, program, room, is_long)
+            test_faulty(count, faulty, room)
+            test_versions(count, faulty, room, NODES)
+            test_both_clients(count, program, library, room)
+            test_measure(count, library)
+            test_disks_and_links(count, program, faulty, room, is_long)
+            test_cuts(count, library, room, is_long)
+            if is_long:
+                test_clocks(count, library, room)
+    return count.report()
+
+
+if __name__ == "__main__":
+    sys.exit(main(sys.argv[1:]))
