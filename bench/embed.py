@@ -28,7 +28,7 @@ import tempfile
 from bench import common
 from bench.common import HERE, TOP, number, print_head, print_row
 from tests.harness import CC
-from tests.rules import MOST_STRIPES
+from tests.model.rules import MOST_STRIPES
 
 USUAL = {"nodes": 512, "stripes": MOST_STRIPES, "rounds": 25}
 QUICK = {"nodes": 32, "stripes": 256, "rounds": 1}

@@ -9,7 +9,7 @@ from functools import cache
 from bench import loads
 from bench.bundles import Bundle, check_output
 from bench.common import HERE, Wrong, print_head, print_row
-from tests.rules import MOST_BYTES
+from tests.model.rules import MOST_BYTES
 
 TABLE = os.path.join(HERE, "budget")
 SIZES = [(32, 256), (512, 4096)]

@@ -6,7 +6,7 @@ from itertools import cycle
 
 from bench.fills import fill, groups, home, quarter, sleepers
 from bench.scripts import LAST, LONGEST, UPGRADES
-from tests.rules import FRAGMENTS, MOST_STRIPES, PLACES
+from tests.model.rules import FRAGMENTS, MOST_STRIPES, PLACES
 
 LIVE = 40000  # the leases of `ticks` that are live at once, where there are as many stripes as there can be
 PLACES = list(PLACES)

@@ -11,7 +11,7 @@ from bench import fills, kinds
 from bench.fills import fill
 from bench.scripts import UPGRADES, Full, Part, Script
 from tests.harness import bundle_of, topology_of
-from tests.rules import MOST_SLOTS, Node
+from tests.model.rules import MOST_SLOTS, Node
 
 FAULTS = 32  # domains
 

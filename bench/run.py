@@ -49,10 +49,10 @@ from bench import common, instructions, loads
 from bench.bundles import check_again, check_output, make_bundle
 from bench.common import HERE, Wrong, number, print_head, print_row, status_of
 from bench.scripts import LONGEST
-from bench.store import Store
-from tests import draws, rules
 from tests.harness import Count
-from tests.rules import MOST_BYTES, MOST_STRIPES
+from tests.model import draws, rules
+from tests.model.rules import MOST_BYTES, MOST_STRIPES
+from tests.model.store import Store
 
 COMMAND = os.path.join(HERE, "run")
 ONCE = [sys.executable, "-S", "-I", os.path.join(HERE, "once.py")]

@@ -1,8 +1,8 @@
 """Scripts as they are written line by line: the only one of a bundle, with the replies of the rules, or one of several."""
 import random
 
-from bench.store import Store
-from tests.rules import FRAGMENTS
+from tests.model.rules import FRAGMENTS
+from tests.model.store import Store
 
 UPGRADES = 16  # domains
 SESSION = 1  # of every call of a bundle with one script

@@ -1,8 +1,8 @@
-"""Compares the library of crates/lrc_embed with the model in tests/rules.py, call by call.
+"""Compares the library of crates/lrc_embed with the model in tests/model/rules.py, call by call.
 
 Usage: tests/beside [--long] [FOLDER], where FOLDER has what examples/embed/build makes; by default it is built first.
 
-Calls of all kinds are drawn by a fixed rule (tests/draws.py): 5,000 over twenty nodes, 1,000 over sixty nodes of uneven
+Calls of all kinds are drawn by a fixed rule (tests/model/draws.py): 5,000 over twenty nodes, 1,000 over sixty nodes of uneven
 size, whose numbers are in no order, and 2,000 with a book that forgets its entries after each hundredth call. Before each
 call a peek returns its reply. After each tenth peek, and after each call, the book and the model are compared
 (tests/comparing.py): the reply and the entry; the code, level, missing fragments, homes and leases of each stripe; the load
@@ -12,7 +12,7 @@ either code has to have occurred, each refusal of a fragment that the code of it
 one, and several.
 
 Then books and models begin in images:
-- images that are written by hand (tests/causes.py), with the line and the cause that each is refused for, by the model too;
+- images that are written by hand (tests/model/causes.py), with the line and the cause that each is refused for, by the model too;
 - a store that runs on for 30,000 calls (tests/restarts.py): each thousandth time an image is kept and the log cut, and the
   book is closed some hundred times and begins again in the last image with the entries behind it;
 - 3,000 images with one thing changed (tests/changes.py): the model and the library report the same line and cause, or begin
@@ -29,9 +29,10 @@ import tempfile
 from collections import Counter
 from itertools import islice
 
-from tests import causes, changes, draws, harness, restarts, rules
+from tests import changes, harness, restarts
 from tests.comparing import STRIPES, Differs, begun_in_book, begun_in_model, compare, expect, make
 from tests.library import lrc_embed
+from tests.model import causes, draws, rules
 
 TWENTY = harness.nodes_in_order(20, 16)
 SIXTY = {(i * 37) % 61 * 7: rules.Node(i % 20, i % 8, 3 + i % 9) for i in range(60)}

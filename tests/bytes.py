@@ -3,7 +3,7 @@
 Usage: tests/bytes [FOLDER] [SEED], where FOLDER has what examples/embed/build makes; by default it is built first. The bytes are
 drawn from a seed, which is printed; by default it is that of the hour.
 
-- Beside the model of tests/field.py: the generator matrices; for each of the 65,536 and 1,024 sets, and each fragment, whether it
+- Beside the model of tests/model/field.py: the generator matrices; for each of the 65,536 and 1,024 sets, and each fragment, whether it
   has a recipe; each recipe of a missing fragment; parities and rebuilt fragments of stripes of several lengths. A recipe with a
   coefficient changed, and one of another fragment, are found out.
 - What docs/CODING.md asks of a worker, with a book: leases of lost nodes, of a drained one and of a damaged fragment, each with its
@@ -20,10 +20,11 @@ import sys
 import tempfile
 import time
 
-from tests import field, harness, recipe_rules
+from tests import harness
 from tests.harness import CC, EXAMPLES, TESTS, TOP
 from tests.library import command_of, lrc_embed
-from tests.rules import NARROW, WIDE, is_recoverable, members
+from tests.model import field, recipe_rules
+from tests.model.rules import NARROW, WIDE, is_recoverable, members
 
 CODES = {WIDE: lrc_embed.Code.WIDE, NARROW: lrc_embed.Code.NARROW}
 LENGTHS = (0, 1, 63, 64, 65, 1000)

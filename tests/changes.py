@@ -3,10 +3,11 @@ same fault, or begin in the same state."""
 import re
 from collections import Counter
 
-from tests import draws, harness, rules
+from tests import harness
 from tests.comparing import Differs, begun_in_book, begun_in_model, compare, expect, make
-from tests.draws import is_seldom, one_of
-from tests.rules import Cause, Node
+from tests.model import draws, rules
+from tests.model.draws import is_seldom, one_of
+from tests.model.rules import Cause, Node
 
 TWENTY = harness.nodes_in_order(20, 16)
 UNEVEN = {(i * 7) % 23 * 3: Node(i % 17, i % 9, 2 + i % 5) for i in range(22)}

@@ -5,9 +5,9 @@ the hour, is printed
 
 - gofmt, go vet and staticcheck find nothing, and the tests of the program pass.
 - Its demo ends well: a rack is lost, a worker is late, all is upgraded under load, a byte on a disk is damaged, a file is cut.
-  The log of the book has to be a history of tests/rules.py. What the demo counted is compared with it: each report of a
+  The log of the book has to be a history of tests/model/rules.py. What the demo counted is compared with it: each report of a
   worker, how many fragments it read for its repair, and how many were rebuilt for the reader. The fragments on the disks at
-  their homes have to be stripes of tests/field.py.
+  their homes have to be stripes of tests/model/field.py.
 - A node without the fence, a reader that compares no checksums, a wrong count and a changed byte with its checksum are found.
 
 With --long there are more objects, and three lrcmand too. What this machine lacks is printed and left out. The last line is
@@ -21,9 +21,10 @@ import tempfile
 import time
 import zlib
 
-from tests import field, harness, recipe_rules
+from tests import harness
 from tests.harness import TOP
-from tests.rules import WIDE, Store
+from tests.model import field, recipe_rules
+from tests.model.rules import WIDE, Store
 
 EXAMPLE = f"{TOP}/examples/cluster"
 FRAGMENT = 65536

@@ -10,7 +10,7 @@ Usage: tests/embed [--long] [FOLDER], where FOLDER has what examples/embed/build
   also logs of earlier libraries.
 - Books begin in images over other nodes, and in a store that is taken over, as docs/EMBEDDING.md says.
 - Every bundle of examples and examples/several is run through the library, call by call: each reply, and at the end both
-  tables, the codes, the clock and the live leases are those of the model in tests/rules.py; the entries are replayed,
+  tables, the codes, the clock and the live leases are those of the model in tests/model/rules.py; the entries are replayed,
   as they are and changed; and a book begins in the image of the state, and in one between the entries, with those behind it.
 - tests/embed.c calls each function with each status: plain and with the address and undefined-behaviour sanitizers, and in
   valgrind. Each request for memory is refused in turn, alone and with all that follow, each time in a copy (`fork`) of the
@@ -30,9 +30,10 @@ import tempfile
 from collections import Counter
 from concurrent.futures import ThreadPoolExecutor
 
-from tests import harness, images, module, rules
+from tests import harness, images, module
 from tests.harness import CC, EXAMPLES, TESTS, TOP
 from tests.library import code_word, command_of, load_rows, lrc_embed, of_version, risk_rows
+from tests.model import rules
 
 CRATES = ["lrc_records", "lrc_walks", "lrc_embed"]  # what the header declares: the structs, the outages, and the functions
 EMBED, INCLUDE = f"{EXAMPLES}/embed", f"{TOP}/crates/lrc_embed/include"

@@ -1,9 +1,9 @@
 """A store at its limits: 512 nodes with the highest numbers, in 256 fault domains, and 4,096 stripes, of which each fragment
 has a lease, with its target beside its home. Some nodes are gone, down or draining. The questions of the rules are answered
-from the indexes of bench/store.py: a search over so many homes takes too long."""
-from bench.store import Store
-from tests import rules
-from tests.rules import MOST_SLOTS, MOST_STRIPES, NARROW, WIDE, Lease, Node, members
+from the indexes of tests/model/store.py: a search over so many homes takes too long."""
+from tests.model import rules
+from tests.model.rules import MOST_SLOTS, MOST_STRIPES, NARROW, WIDE, Lease, Node, members
+from tests.model.store import Store
 
 COUNT, FIRST = 512, 2**16 - 512
 BEFORE, CLOCK = 2**63 - 100_000, 1_000_000

@@ -18,7 +18,7 @@ from collections import namedtuple
 from concurrent.futures import ThreadPoolExecutor
 
 from tests import harness
-from tests.causes import IMAGE
+from tests.model.causes import IMAGE
 
 MARKS = "begin\nend\n"
 

@@ -8,7 +8,7 @@ import subprocess
 import sys
 import tomllib
 
-from tests.rules import Node
+from tests.model.rules import Node
 
 TESTS = os.path.dirname(os.path.abspath(__file__))
 TOP = os.path.dirname(TESTS)

@@ -1,8 +1,8 @@
 """What an output of several scripts has to be: with some order of the calls it is that of the rules. tests/replay tells more."""
 import re
 
-from tests import rules
 from tests.harness import parts_of
+from tests.model import rules
 
 
 class Wrong(Exception):

@@ -1,4 +1,4 @@
-"""Commands for a book of the library, and what it reports, as the texts of the model in tests/rules.py."""
+"""Commands for a book of the library, and what it reports, as the texts of the model in tests/model/rules.py."""
 import os
 from collections import namedtuple
 

@@ -1,4 +1,4 @@
-"""Gives the program, and the library, input at every limit, and compares with the model in tests/rules.py. Want of memory must be
+"""Gives the program, and the library, input at every limit, and compares with the model in tests/model/rules.py. Want of memory must be
 told only where memory was refused, and no contract can say so: here it never is.
 
 Usage: tests/limits [PROGRAM [FOLDER]], where FOLDER has what examples/embed/build makes; without it the program alone is tried,
@@ -25,10 +25,11 @@ import sys
 from collections import namedtuple
 from functools import cache
 
-from tests import causes, comparing, full, harness, judging, library, rules, shown, walked
+from tests import comparing, full, harness, judging, library, walked
 from tests.full import CLOCK, COUNT, FIRST
 from tests.library import command_of, lrc_embed
-from tests.rules import MOST_BYTES, MOST_ENTRIES, MOST_GRANTS, MOST_STRIPES, MOST_TICKS, Cause, Node
+from tests.model import causes, rules, shown
+from tests.model.rules import MOST_BYTES, MOST_ENTRIES, MOST_GRANTS, MOST_STRIPES, MOST_TICKS, Cause, Node
 
 TWENTY = harness.nodes_in_order(20, 256)
 TIMEOUT = 30 * 60  # (a program that is compiled with checks is far slower than a proved one)

@@ -1,10 +1,10 @@
 """Compares what docs/RULES.md and docs/FORMATS.md show of the bytes of a stripe, and what `lrcman recipe` and `lrcman matrix` print,
-with the model in tests/field.py.
+with the model in tests/model/field.py.
 
 Usage: tests/matrices [PROGRAM], by default the program that `rt ci` or `rt run` has built in crates/lrcman.
 
 - The generator matrices and recipes of RULES, and each output that FORMATS shows.
-- Each set of each code can be decoded exactly if tests/rules.py calls it recoverable, and what else is determined is told too.
+- Each set of each code can be decoded exactly if tests/model/rules.py calls it recoverable, and what else is determined is told too.
 - Both matrices as the program prints them; the recipe of every fragment for some sets; for one of eleven of all recoverable
   sets, the recipe of one of its fragments, in turn; and each refusal.
 
@@ -16,8 +16,8 @@ import sys
 from concurrent.futures import ThreadPoolExecutor
 
 from tests import harness
-from tests.field import determines, generator, is_decodable, recipe
-from tests.rules import NARROW, WIDE, is_recoverable, members
+from tests.model.field import determines, generator, is_decodable, recipe
+from tests.model.rules import NARROW, WIDE, is_recoverable, members
 
 SIX = {WIDE: "", NARROW: "6"}  # the end of a word of the command line
 NAMED = {code.name: code for code in SIX}

@@ -15,9 +15,10 @@ import sys
 import tempfile
 import xml.etree.ElementTree as ElementTree
 
-from tests import harness, rules
+from tests import harness
 from tests.harness import example, parts_of, run_bundle
-from tests.rules import Node, members
+from tests.model import rules
+from tests.model.rules import Node, members
 
 PICTURE = f"{harness.TOP}/tools/picture"
 EXAMPLES = ("each_mode_and_level", "most_nodes", "nodes_fail_under_both_codes", "narrow_stripe_unavailable")

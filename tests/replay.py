@@ -1,4 +1,4 @@
-"""Checks outputs of `lrcman run` for bundles with any number of scripts against the model in tests/rules.py, and those of
+"""Checks outputs of `lrcman run` for bundles with any number of scripts against the model in tests/model/rules.py, and those of
 `lrcman image` and `lrcman resume` for runs that are cut in two.
 
 Usage: tests/replay [--quick] [PROGRAM], by default the program that `rt ci` or `rt run` has built in crates/lrcman;
@@ -22,10 +22,11 @@ import re
 import subprocess
 import sys
 
-from tests import harness, rules
-from tests.draws import numbers
+from tests import harness
 from tests.harness import parts_of, read
 from tests.judging import Wrong, index_of, indexes_of, is_right, judge, output_of
+from tests.model import rules
+from tests.model.draws import numbers
 
 RUNS, SCRIPTS, COMMANDS = 16, 8, 40
 CUT_RUNS, CUT_COMMANDS, CUTS = 8, 160, 20  # runs of mixed commands that are cut, their commands, and the cuts of each

@@ -1,4 +1,4 @@
-"""Compares `lrcman show`, `may-stop` and `may-lose` with the model in tests/rules.py.
+"""Compares `lrcman show`, `may-stop` and `may-lose` with the model in tests/model/rules.py.
 
 Usage: tests/show [--long | --quick] [PROGRAM] [SEED], by default the program that `rt ci` or `rt run` has built in crates/lrcman.
 The seed, by default that of the hour, is printed. It is that of some of the stores that returns come to.
@@ -24,10 +24,11 @@ import sys
 from collections import Counter
 from concurrent.futures import ThreadPoolExecutor
 
-from tests import causes, draws, harness, returns, rules
-from tests.draws import numbers
+from tests import harness
 from tests.harness import parts_of
-from tests.shown import FORECAST, REPORTS, VIEWS, forecast, nodes_of, shown
+from tests.model import causes, draws, returns, rules
+from tests.model.draws import numbers
+from tests.model.shown import FORECAST, REPORTS, VIEWS, forecast, nodes_of, shown
 
 DRAWN, LONG, QUICK, COMMANDS = 200, 3_000, 20, 60
 EACH = 5  # with --quick, one of so many bundles is taken

@@ -6,7 +6,8 @@ import sys
 from itertools import combinations
 from xml.etree import ElementTree
 
-from tests import harness, rules
+from tests import harness
+from tests.model import rules
 from tests.store_requests import STORES, check_other_version, compile_store, next_version
 
 FOLDER = os.path.join(STORES, "durability")

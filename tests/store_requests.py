@@ -1,4 +1,4 @@
-"""What the tests of the stores share: requests with the replies of the model in tests/rules.py, and stores that run."""
+"""What the tests of the stores share: requests with the replies of the model in tests/model/rules.py, and stores that run."""
 import os
 import shutil
 import signal
@@ -8,10 +8,10 @@ import threading
 import time
 import zlib
 
-from bench import store  # the model with indexes, so that thousands of calls take seconds
-from tests import draws, harness, rules
+from tests import harness
 from tests.comparing import STRIPES, Differs, compare
 from tests.library import FIELDS, command_of, lrc_embed, of_version
+from tests.model import draws, rules, store
 
 STORES = os.path.join(harness.EXAMPLES, "stores")
 INCLUDE = f"{harness.TOP}/crates/lrc_embed/include"

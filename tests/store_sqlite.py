@@ -8,8 +8,8 @@ import sys
 from contextlib import closing
 from itertools import count as numbers_from
 
-from tests import draws
 from tests.library import lrc_embed
+from tests.model import draws
 from tests.store_requests import STORES, TOPOLOGY, Requests, Running, check_other_version, next_version, pause
 
 STORE = os.path.join(STORES, "sqlite", "store.py")

@@ -8,9 +8,9 @@ import time
 import zlib
 from statistics import median
 
-from tests import draws
 from tests.harness import loaded
 from tests.library import command_of, lrc_embed
+from tests.model import draws
 from tests.store_requests import STORES, TOPOLOGY, Requests, Running, check_other_version, next_version, pause
 
 STORE = os.path.join(STORES, "standby", "store.py")

@@ -8,9 +8,9 @@ import struct
 import subprocess
 import zlib
 
-from tests import draws, rules
 from tests.harness import read
 from tests.library import lrc_embed
+from tests.model import draws, rules
 from tests.store_requests import CXX, Running, check_other_version, compile_store, left_out, model_of, next_version, pause
 
 HEADER, RECORD = struct.Struct("<QII"), struct.Struct("<QQ128sII")

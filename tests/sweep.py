@@ -26,7 +26,7 @@ from concurrent.futures import ThreadPoolExecutor
 
 from tests import harness
 from tests.harness import example
-from tests.rules import MOST_BYTES
+from tests.model.rules import MOST_BYTES
 
 STREAMS = ["INPUT", "OUTPUT", "ERRORS"]
 KINDS = ["MEMORY", *STREAMS]

@@ -1,5 +1,5 @@
 """What the walks of a book of the library return, and the looks beside them, as rows; and the same rows of a model in
-tests/rules.py."""
+tests/model/rules.py."""
 import copy
 from collections import Counter
 

@@ -9,7 +9,7 @@ from service.harness.cluster import Asker, Group
 from service.harness.etcds import resident
 from service.harness.work import make_books
 from tests import harness
-from tests.rules import Node
+from tests.model.rules import Node
 
 MEBIBYTE = 1 << 20
 MOST_RESIDENT = 300

@@ -16,8 +16,8 @@ from service.harness.cluster import Asker, Group, Member
 from service.harness.fake_group import FAULTS, NOTHING, FakeGroup
 from service.harness.network import Network, ways_between
 from service.harness.one_member import wait_ready
-from tests import rules
 from tests.harness import TOP, example, loaded, parts_of, split, topology_of
+from tests.model import rules
 
 SERVICE = os.path.join(TOP, "service")
 lrcmand_client = loaded(f"{SERVICE}/client/lrcmand_client.py")

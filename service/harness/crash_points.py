@@ -10,7 +10,8 @@ from service.harness.clients import Caller
 from service.harness.cluster import Asker, Group
 from service.harness.damaged import change_byte
 from service.harness.disks import Disks, NoDisk
-from tests import harness, rules
+from tests import harness
+from tests.model import rules
 
 BOOK = "p0"
 ROUNDS, CALLS = 4, 25  # of a run: calls, and then a snapshot

@@ -9,7 +9,8 @@ import time
 from service.harness.clients import Caller
 from service.harness.cluster import Asker, Group, Member
 from service.harness.one_member import wait_ready
-from tests import harness, rules
+from tests import harness
+from tests.model import rules
 
 BOOK = "p0"
 CALLS = 130

@@ -1,9 +1,9 @@
-"""What the answers of a run have to be: held against the committed log of each book, and the log against tests/rules.py."""
+"""What the answers of a run have to be: held against the committed log of each book, and the log against tests/model/rules.py."""
 from bisect import bisect_left
 from collections import defaultdict
 
 from service.harness.unkeyed import is_unkeyed
-from tests import rules
+from tests.model import rules
 
 
 def judge(nodes, logs, told, looks, ticks=False):

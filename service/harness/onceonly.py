@@ -9,7 +9,7 @@ from service.harness.network import Network
 from service.harness.one_member import wait_ready
 from service.harness.work import asked_for
 from tests import harness
-from tests.rules import Node
+from tests.model.rules import Node
 
 BOOK, ELECTION = "p0", 0.5
 WORDS = ["--election", f"{ELECTION}s", "--tick", "0", "--compare", "1", "--timeout", "20s"]

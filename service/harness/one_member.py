@@ -1,10 +1,11 @@
-"""One member alone: it starts, is killed, goes on, and shows what tests/shown.py shows."""
+"""One member alone: it starts, is killed, goes on, and shows what tests/model/shown.py shows."""
 import os
 import subprocess
 import time
 
 from service.harness.cluster import Asker, Group, Member
-from tests import harness, recipe_rules, rules, shown
+from tests import harness
+from tests.model import recipe_rules, rules, shown
 
 
 def wait_ready(asker, member, limit=10):

@@ -3,7 +3,7 @@
 Usage: service/test [--long] [--library FOLDER], where FOLDER has what examples/embed/build makes; by default examples/embed/out
 
 - gofmt, go vet and staticcheck find nothing; the tests of each package pass with the race detector.
-- One member: it is ready within a second, is killed and goes on; its tables are those of tests/shown.py, byte for byte.
+- One member: it is ready within a second, is killed and goes on; its tables are those of tests/model/shown.py, byte for byte.
 - What an operator sees: versions and options, a start, an end under load without an election, what systemd is told.
 - A book moves from one member to another, call by call as the model has it.
 - Members at addresses where nobody listens don't strand a group, and changes that would are refused; a backup under load is restored,
@@ -12,7 +12,7 @@ Usage: service/test [--long] [--library FOLDER], where FOLDER has what examples/
   role, name and book has its rights over TLS.
 - Three members and more, of which some are killed, stopped, woken, added and removed while clients call, look and read logs. Each
   told reply stands in the log of its book, in each client's order, none twice; no look is older than it says; the log is a
-  history of tests/rules.py, and all members have its image in the end. Ten seconds, or two minutes with --long, which makes
+  history of tests/model/rules.py, and all members have its image in the end. Ten seconds, or two minutes with --long, which makes
   the other runs longer too: ten minutes in all.
 - service/measure --quick has all its rows, and each reply that is told in it is an entry.
 - The clients of Go and of Python make each call at most once, and tell what came of it rightly: over a fake group that does what
@@ -66,7 +66,7 @@ from service.harness.versions import test_versions
 from service.harness.work import LEAST
 from tests import harness
 from tests.harness import TOP, Count
-from tests.rules import Node
+from tests.model.rules import Node
 
 SERVICE = os.path.join(TOP, "service")
 SECONDS, LONG, MOST_RUNS = 10, 120, 10

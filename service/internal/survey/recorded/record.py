@@ -1,10 +1,10 @@
-"""Writes the states that the tests of metrics and of the page look at, as the plain model tests/rules.py has them.
+"""Writes the states that the tests of metrics and of the page look at, as the plain model tests/model/rules.py has them.
 
 Usage: service/internal/survey/recorded/record    writes states/NAME.json anew"""
 import json
 import os
 
-from tests import rules, shown
+from tests.model import rules, shown
 
 HERE = os.path.dirname(os.path.abspath(__file__))
 

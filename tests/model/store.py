@@ -1,11 +1,11 @@
-"""The store of the rules (tests/rules.py) with indexes, so that bundles for large stores take seconds to make.
+"""The store of the rules (tests/model/rules.py) with indexes, so that bundles for large stores take seconds to make.
 
 No rule stands here: a method answers a question of the rules from an index, or makes a change and updates the indexes."""
 from collections import defaultdict
 from itertools import chain
 
-from tests import rules
-from tests.rules import least, members, set_of
+from tests.model import rules
+from tests.model.rules import least, members, set_of
 
 
 class Fragments:

@@ -1,5 +1,5 @@
 """The text of an image, read once more after docs/FORMATS.md (The image of a state): its lines as rows, or its first bad
-line. Rows are not looked at beside each other here: `Store.begin` of tests/rules.py does that."""
+line. Rows are not looked at beside each other here: `Store.begin` of tests/model/rules.py does that."""
 import re
 from collections import namedtuple
 

@@ -1,10 +1,10 @@
-"""What `lrcman show`, `may-stop` and `may-lose` print of a store of tests/rules.py, written once more after docs/FORMATS.md."""
+"""What `lrcman show`, `may-stop` and `may-lose` print of a store of tests/model/rules.py, written once more after docs/FORMATS.md."""
 import copy
 from collections import Counter
 
-from tests import rules
-from tests.field import read_for
-from tests.rules import FRAGMENTS, members
+from tests.model import rules
+from tests.model.field import read_for
+from tests.model.rules import FRAGMENTS, members
 
 VIEWS = ("status", "stripes", "nodes", "leases", "work")
 HOMES = [f"home_{fragment}" for fragment in FRAGMENTS]

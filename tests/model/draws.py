@@ -1,7 +1,7 @@
 """Numbers and calls that are drawn by a fixed rule, so that a run can be made again."""
 from collections import namedtuple
 
-from tests.rules import FRAGMENTS, PLACES
+from tests.model.rules import FRAGMENTS, PLACES
 
 # What is drawn from: stripe numbers 0 to `stripes`, of which the last is never placed; nodes and upgrade domains, with one
 # of each that the store does not have.

@@ -2,13 +2,13 @@
 
 A `Store` takes one command after the other and returns the text of each reply. Each command is a method, and asks the
 questions above it, which search all homes and leases: nothing is stored beside them but the counts of grants and of ticks.
-bench/store.py answers the same questions from indexes. A set of nodes, stripes or fragments is a whole number with a bit
+tests/model/store.py answers the same questions from indexes. A set of nodes, stripes or fragments is a whole number with a bit
 for each member."""
 from collections import Counter, namedtuple
 from enum import IntEnum
 from functools import cache
 
-from tests import image_text
+from tests.model import image_text
 
 FRAGMENTS = range(16)  # what a command may name, whatever the code of its stripe
 MOST_STRIPES, MOST_SLOTS, MOST_BYTES = 4096, 256, 4_194_304

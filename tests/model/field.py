@@ -1,10 +1,10 @@
 """The bytes of a stripe, written once more after docs/RULES.md: a model that knows nothing of the program.
 
 A row is the coefficients of a fragment, one for each data fragment, as bytes. A set of fragments is a whole number with a bit
-for each member, as in tests/rules.py."""
+for each member, as in tests/model/rules.py."""
 from functools import cache
 
-from tests.rules import members
+from tests.model.rules import members
 
 MODULUS = 0x11D  # x^8 + x^4 + x^3 + x^2 + 1
 

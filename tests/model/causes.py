@@ -1,6 +1,6 @@
 """Images that are written by hand after docs/FORMATS.md (The image of a state), and what becomes of each."""
 from tests.harness import nodes_in_order
-from tests.rules import Cause
+from tests.model.rules import Cause
 
 TWENTY = nodes_in_order(20, 4)
 IMAGE = """image 1

@@ -1,5 +1,5 @@
-"""What a recipe has to be, by docs/RULES.md, over the rows of tests/field.py: any program's recipe, whichever it chose."""
-from tests import field
+"""What a recipe has to be, by docs/RULES.md, over the rows of tests/model/field.py: any program's recipe, whichever it chose."""
+from tests.model import field
 
 
 def sum_of(rows, coefficients, width):

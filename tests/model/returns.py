@@ -1,4 +1,4 @@
-"""What a forecast means, held to the model in tests/rules.py: a stripe that an outage does not harm is, after any returns,
+"""What a forecast means, held to the model in tests/model/rules.py: a stripe that an outage does not harm is, after any returns,
 recoverable with the outage exactly where it is recoverable without it. Returns are `up`, `upgraded` and `done`.
 
 Of a drawn store there are two copies, of which one gets the reports of a drawn outage; then both get the same drawn returns.
@@ -7,9 +7,9 @@ import copy
 import time
 from collections import Counter
 
-from tests import draws, shown
-from tests.draws import numbers, one_of
-from tests.rules import Node, Store
+from tests.model import draws, shown
+from tests.model.draws import numbers, one_of
+from tests.model.rules import Node, Store
 
 SEEDS, FRESH, STATES = 1_000, 100, 3  # the stores that are the same each time, the others, and the states that each comes to
 COMMANDS, TROUBLE, RETURNS = 30, 12, 10  # before the first state; before each one; after it
