@@ -5,9 +5,9 @@ from collections import namedtuple
 
 from bench import loads
 from bench.common import Wrong
-from tests import judging
 from tests.harness import read
 from tests.model.store import Store
+from tests.program import judging
 
 Bundle = namedtuple("Bundle", "kind path load lines")
 

@@ -3,7 +3,7 @@
 Usage: tests/growth [PROGRAM], by default the program that `rt ci` or `rt run` has built in crates/probes.
 
 The program prints its whole state, makes one call between two marks, prints the result and the state again. Where memory was
-refused to the call, it makes it once more. tests/calls.c refuses memory between the first two marks alone. Right is only:
+refused to the call, it makes it once more. tests/program/calls.c refuses memory between the first two marks alone. Right is only:
 - with ample memory: the result that the rules give;
 - with a request refused, alone or with all that follow: out of memory, and the state before the call; then, for the same
   call with ample memory, the result and the state as where nothing was refused;

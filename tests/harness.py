@@ -86,12 +86,12 @@ def program_of(words, name="lrcman"):
 
 
 def compiled_shim(folder):
-    """Compiles tests/calls.c, the object that refuses memory and fails reads and writes of a program."""
+    """Compiles tests/program/calls.c, the object that refuses memory and fails reads and writes of a program."""
     if not shutil.which(CC):
         stop(f"there is no C compiler {CC}")
     shim = f"{folder}/calls.so"
-    if subprocess.run([CC, "-O2", "-shared", "-fPIC", "-o", shim, f"{TESTS}/calls.c"]).returncode:
-        stop("the C compiler did not compile tests/calls.c")
+    if subprocess.run([CC, "-O2", "-shared", "-fPIC", "-o", shim, f"{TESTS}/program/calls.c"]).returncode:
+        stop("the C compiler did not compile tests/program/calls.c")
     return shim
 
 

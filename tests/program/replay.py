@@ -1,8 +1,8 @@
 """Checks outputs of `lrcman run` for bundles with any number of scripts against the model in tests/model/rules.py, and those of
 `lrcman image` and `lrcman resume` for runs that are cut in two.
 
-Usage: tests/replay [--quick] [PROGRAM], by default the program that `rt ci` or `rt run` has built in crates/lrcman;
-       tests/replay --judge BUNDLE OUTPUT checks one output that is there already.
+Usage: tests/program/replay [--quick] [PROGRAM], by default the program that `rt ci` or `rt run` has built in crates/lrcman;
+       tests/program/replay --judge BUNDLE OUTPUT checks one output that is there already.
 
 With several scripts an output depends on how the threads ran. It is right exactly where
 - each script has a line `script` with its number, and after it a line for each of its commands, with an index;
@@ -24,9 +24,9 @@ import sys
 
 from tests import harness
 from tests.harness import parts_of, read
-from tests.judging import Wrong, index_of, indexes_of, is_right, judge, output_of
 from tests.model import rules
 from tests.model.draws import numbers
+from tests.program.judging import Wrong, index_of, indexes_of, is_right, judge, output_of
 
 RUNS, SCRIPTS, COMMANDS = 16, 8, 40
 CUT_RUNS, CUT_COMMANDS, CUTS = 8, 160, 20  # runs of mixed commands that are cut, their commands, and the cuts of each
@@ -345,7 +345,7 @@ def main(words):
         return judge_files(*words[1:])
     named = [it for it in words if it != "--quick"]
     if len(named) > 1:
-        harness.stop("usage: tests/replay [--quick] [PROGRAM]")
+        harness.stop("usage: tests/program/replay [--quick] [PROGRAM]")
     return test(harness.program_of(named), 1 if named == words else EACH)
 
 

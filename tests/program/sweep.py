@@ -1,6 +1,6 @@
 """Runs the program with each request for memory refused in turn, and with each read and write failed or cut short.
 
-Usage: tests/sweep [--quick] [PROGRAM], by default the program that `rt ci` or `rt run` has built in crates/lrcman.
+Usage: tests/program/sweep [--quick] [PROGRAM], by default the program that `rt ci` or `rt run` has built in crates/lrcman.
 
 With --quick it takes the first command line of each word, and where each call moves one byte, each 20th call.
 
@@ -14,7 +14,7 @@ Right is, and nothing else:
 - reads and writes of one byte, all of them or one: all as with whole ones.
 The status, standard output and standard error of each case are compared.
 
-To start the program anew for each case takes long. So tests/calls.c lets it run once and forks it at each call, once for
+To start the program anew for each case takes long. So tests/program/calls.c lets it run once and forks it at each call, once for
 each case of that call. A process with threads can't be forked: cases that were not tried so are run alone. Where all were,
 some are run alone too, and have to end as the forked ones. The last line is 'N passed, M failed'."""
 import errno

@@ -1,7 +1,7 @@
 """Draws pictures with tools/picture, of examples that the program runs, also with CRLF and with a byte order mark, and of
 wide topologies, and of sequels, and checks them.
 
-Usage: tests/pictures [PROGRAM], by default the program that `rt ci` or `rt run` has built in crates/lrcman.
+Usage: tests/program/pictures [PROGRAM], by default the program that `rt ci` or `rt run` has built in crates/lrcman.
 
 Right is, and nothing else:
 - a picture is XML; it has each node once, with its domains, mode, load and whether it is online, inside the picture and

@@ -1,6 +1,6 @@
 """Compares `lrcman show`, `may-stop` and `may-lose` with the model in tests/model/rules.py.
 
-Usage: tests/show [--long | --quick] [PROGRAM] [SEED], by default the program that `rt ci` or `rt run` has built in crates/lrcman.
+Usage: tests/program/show [--long | --quick] [PROGRAM] [SEED], by default the program that `rt ci` or `rt run` has built in crates/lrcman.
 The seed, by default that of the hour, is printed. It is that of some of the stores that returns come to.
 
 - Each bundle of `examples` and `examples/rules`, each sequel of `examples/sequels`, and 200 drawn bundles, or 3,000 with

@@ -1,4 +1,4 @@
-"""What an output of several scripts has to be: with some order of the calls it is that of the rules. tests/replay tells more."""
+"""What an output of several scripts has to be: with some order of the calls it is that of the rules. tests/program/replay tells more."""
 import re
 
 from tests.harness import parts_of

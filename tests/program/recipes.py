@@ -1,6 +1,6 @@
 """Runs the shell recipes of docs/OPERATING.md as they stand on the page.
 
-Usage: tests/recipes [PROGRAM], by default the program that `rt ci` or `rt run` has built in crates/lrcman.
+Usage: tests/program/recipes [PROGRAM], by default the program that `rt ci` or `rt run` has built in crates/lrcman.
 
 - The recipe that makes a file shorter is run three days in a row. After each day the topology is the one of the first day,
   each table of `show` is that of the whole history, and `resume` of the day's file prints the replies and tables that `run`

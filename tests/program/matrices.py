@@ -1,7 +1,7 @@
 """Compares what docs/RULES.md and docs/FORMATS.md show of the bytes of a stripe, and what `lrcman recipe` and `lrcman matrix` print,
 with the model in tests/model/field.py.
 
-Usage: tests/matrices [PROGRAM], by default the program that `rt ci` or `rt run` has built in crates/lrcman.
+Usage: tests/program/matrices [PROGRAM], by default the program that `rt ci` or `rt run` has built in crates/lrcman.
 
 - The generator matrices and recipes of RULES, and each output that FORMATS shows.
 - Each set of each code can be decoded exactly if tests/model/rules.py calls it recoverable, and what else is determined is told too.

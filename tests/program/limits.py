@@ -1,7 +1,7 @@
 """Gives the program, and the library, input at every limit, and compares with the model in tests/model/rules.py. Want of memory must be
 told only where memory was refused, and no contract can say so: here it never is.
 
-Usage: tests/limits [PROGRAM [FOLDER]], where FOLDER has what examples/embed/build makes; without it the program alone is tried,
+Usage: tests/program/limits [PROGRAM [FOLDER]], where FOLDER has what examples/embed/build makes; without it the program alone is tried,
 by default the one that `rt ci` or `rt run` has built in crates/lrcman.
 
 - A store of 512 nodes with the highest numbers and 4,096 stripes, a lease for each fragment, and some nodes gone, down or
@@ -25,11 +25,12 @@ import sys
 from collections import namedtuple
 from functools import cache
 
-from tests import comparing, full, harness, judging, library, walked
+from tests import comparing, full, harness, library, walked
 from tests.full import CLOCK, COUNT, FIRST
 from tests.library import command_of, lrc_embed
 from tests.model import causes, rules, shown
 from tests.model.rules import MOST_BYTES, MOST_ENTRIES, MOST_GRANTS, MOST_STRIPES, MOST_TICKS, Cause, Node
+from tests.program import judging
 
 TWENTY = harness.nodes_in_order(20, 256)
 TIMEOUT = 30 * 60  # (a program that is compiled with checks is far slower than a proved one)
