@@ -8,7 +8,7 @@ import time
 from collections import Counter
 
 from tests import harness
-from tests.library import lrc_embed
+from tests.library.library import lrc_embed
 from tests.store_requests import Running, check_other_version, compile_store, left_out, model_of, next_version
 
 HEADERS = ("/usr/include/postgresql", "/usr/include")

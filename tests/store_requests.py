@@ -9,8 +9,8 @@ import time
 import zlib
 
 from tests import harness
-from tests.comparing import STRIPES, Differs, compare
-from tests.library import FIELDS, command_of, lrc_embed, of_version
+from tests.library.comparing import STRIPES, Differs, compare
+from tests.library.library import FIELDS, command_of, lrc_embed, of_version
 from tests.model import draws, rules, store
 
 STORES = os.path.join(harness.EXAMPLES, "stores")

@@ -8,7 +8,7 @@ import sys
 from contextlib import closing
 from itertools import count as numbers_from
 
-from tests.library import lrc_embed
+from tests.library.library import lrc_embed
 from tests.model import draws
 from tests.store_requests import STORES, TOPOLOGY, Requests, Running, check_other_version, next_version, pause
 

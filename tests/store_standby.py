@@ -9,7 +9,7 @@ import zlib
 from statistics import median
 
 from tests.harness import loaded
-from tests.library import command_of, lrc_embed
+from tests.library.library import command_of, lrc_embed
 from tests.model import draws
 from tests.store_requests import STORES, TOPOLOGY, Requests, Running, check_other_version, next_version, pause
 

@@ -9,7 +9,7 @@ import subprocess
 import zlib
 
 from tests.harness import read
-from tests.library import lrc_embed
+from tests.library.library import lrc_embed
 from tests.model import draws, rules
 from tests.store_requests import CXX, Running, check_other_version, compile_store, left_out, model_of, next_version, pause
 

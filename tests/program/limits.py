@@ -5,7 +5,7 @@ Usage: tests/program/limits [PROGRAM [FOLDER]], where FOLDER has what examples/e
 by default the one that `rt ci` or `rt run` has built in crates/lrcman.
 
 - A store of 512 nodes with the highest numbers and 4,096 stripes, a lease for each fragment, and some nodes gone, down or
-  draining (tests/full.py): its image, its tables, commands after it, and what would become of it if all nodes stopped or were
+  draining (tests/library/full.py): its image, its tables, commands after it, and what would become of it if all nodes stopped or were
   lost, by name, each thrice, or as one domain.
 - Topologies of 512 nodes of which the last is wrong, alone and with an image.
 - Images that are refused: in the last of 67,000 lines; in one beyond row 1,000, for each cause that a stripe, a count of grants
@@ -25,9 +25,10 @@ import sys
 from collections import namedtuple
 from functools import cache
 
-from tests import comparing, full, harness, library, walked
-from tests.full import CLOCK, COUNT, FIRST
-from tests.library import command_of, lrc_embed
+from tests import harness
+from tests.library import comparing, full, library, walked
+from tests.library.full import CLOCK, COUNT, FIRST
+from tests.library.library import command_of, lrc_embed
 from tests.model import causes, rules, shown
 from tests.model.rules import MOST_BYTES, MOST_ENTRIES, MOST_GRANTS, MOST_STRIPES, MOST_TICKS, Cause, Node
 from tests.program import judging

@@ -1,11 +1,11 @@
 """Compares the library of crates/lrc_embed with the model in tests/model/rules.py, call by call.
 
-Usage: tests/beside [--long] [FOLDER], where FOLDER has what examples/embed/build makes; by default it is built first.
+Usage: tests/library/beside [--long] [FOLDER], where FOLDER has what examples/embed/build makes; by default it is built first.
 
 Calls of all kinds are drawn by a fixed rule (tests/model/draws.py): 5,000 over twenty nodes, 1,000 over sixty nodes of uneven
 size, whose numbers are in no order, and 2,000 with a book that forgets its entries after each hundredth call. Before each
 call a peek returns its reply. After each tenth peek, and after each call, the book and the model are compared
-(tests/comparing.py): the reply and the entry; the code, level, missing fragments, homes and leases of each stripe; the load
+(tests/library/comparing.py): the reply and the entry; the code, level, missing fragments, homes and leases of each stripe; the load
 and mode of each node, and whether it is online; the stripes at risk, in the order of repair; the clock; and the image of the
 state. Then the commands are counted: each kind has to have been done and refused, and each refusal, repair and level of
 either code has to have occurred, each refusal of a fragment that the code of its stripe lacks, and ticks that end no lease,
@@ -13,9 +13,9 @@ one, and several.
 
 Then books and models begin in images:
 - images that are written by hand (tests/model/causes.py), with the line and the cause that each is refused for, by the model too;
-- a store that runs on for 30,000 calls (tests/restarts.py): each thousandth time an image is kept and the log cut, and the
+- a store that runs on for 30,000 calls (tests/library/restarts.py): each thousandth time an image is kept and the log cut, and the
   book is closed some hundred times and begins again in the last image with the entries behind it;
-- 3,000 images with one thing changed (tests/changes.py): the model and the library report the same line and cause, or begin
+- 3,000 images with one thing changed (tests/library/changes.py): the model and the library report the same line and cause, or begin
   in the same state and make the same next fifty calls. Each cause has to come.
 With --long these are 3,000,000 calls with 30 images, and 100,000 images.
 
@@ -29,9 +29,10 @@ import tempfile
 from collections import Counter
 from itertools import islice
 
-from tests import changes, harness, restarts
-from tests.comparing import STRIPES, Differs, begun_in_book, begun_in_model, compare, expect, make
-from tests.library import lrc_embed
+from tests import harness
+from tests.library import changes, restarts
+from tests.library.comparing import STRIPES, Differs, begun_in_book, begun_in_model, compare, expect, make
+from tests.library.library import lrc_embed
 from tests.model import causes, draws, rules
 
 TWENTY = harness.nodes_in_order(20, 16)

@@ -1,6 +1,6 @@
 """Compares the bytes of stripes that the library of crates/lrc_embed makes with a plain model, and with ISA-L.
 
-Usage: tests/bytes [FOLDER] [SEED], where FOLDER has what examples/embed/build makes; by default it is built first. The bytes are
+Usage: tests/library/bytes [FOLDER] [SEED], where FOLDER has what examples/embed/build makes; by default it is built first. The bytes are
 drawn from a seed, which is printed; by default it is that of the hour.
 
 - Beside the model of tests/model/field.py: the generator matrices; for each of the 65,536 and 1,024 sets, and each fragment, whether it
@@ -8,7 +8,7 @@ drawn from a seed, which is printed; by default it is that of the hour.
   coefficient changed, and one of another fragment, are found out.
 - What docs/CODING.md asks of a worker, with a book: leases of lost nodes, of a drained one and of a damaged fragment, each with its
   recipe, the bytes that it gives, and the report.
-- Beside ISA-L, where its header is (tests/bytes.c): parities and rebuilt fragments of many lengths, and each recipe of each set
+- Beside ISA-L, where its header is (tests/library/bytes.c): parities and rebuilt fragments of many lengths, and each recipe of each set
   by its functions over 4,096 bytes. A changed coefficient is seen each time.
 
 What is left out is printed. The last line is 'N passed, M failed'."""
@@ -22,7 +22,7 @@ import time
 
 from tests import harness
 from tests.harness import CC, EXAMPLES, TESTS, TOP
-from tests.library import command_of, lrc_embed
+from tests.library.library import command_of, lrc_embed
 from tests.model import field, recipe_rules
 from tests.model.rules import NARROW, WIDE, is_recoverable, members
 
@@ -217,7 +217,7 @@ def run_isal(count, room, seed, wanted):
     """What the program in C has found: the sets and the recipes of each code, and how many fragments these read."""
     program = f"{room}/bytes"
     include = f"{TOP}/crates/lrc_embed/include"
-    words = [CC, "-std=c11", "-O2", "-Wall", "-Wextra", "-Werror", "-I", include, f"{TESTS}/bytes.c", f"{room}/liblrc_embed.a"]
+    words = [CC, "-std=c11", "-O2", "-Wall", "-Wextra", "-Werror", "-I", include, f"{TESTS}/library/bytes.c", f"{room}/liblrc_embed.a"]
     if count.run("building bytes.c", *words, "-lisal", "-o", program) is None:
         return
     said = count.run("bytes.c", program, str(seed), timeout=600)

@@ -1,6 +1,6 @@
 """Builds the library of crates/lrc_embed and tests it from C, C++, Python and Rust.
 
-Usage: tests/embed [--long] [FOLDER], where FOLDER has what examples/embed/build makes; by default it is built first.
+Usage: tests/library/embed [--long] [FOLDER], where FOLDER has what examples/embed/build makes; by default it is built first.
 
 - The header is compared with lrc_records, lrc_walks and lrc_embed: each struct's size, each field's offset and type, each
   function, each constant; and the structs and constants of the Python module with the header. Compilers take it without a
@@ -12,7 +12,7 @@ Usage: tests/embed [--long] [FOLDER], where FOLDER has what examples/embed/build
 - Every bundle of examples and examples/several is run through the library, call by call: each reply, and at the end both
   tables, the codes, the clock and the live leases are those of the model in tests/model/rules.py; the entries are replayed,
   as they are and changed; and a book begins in the image of the state, and in one between the entries, with those behind it.
-- tests/embed.c calls each function with each status: plain and with the address and undefined-behaviour sanitizers, and in
+- tests/library/embed.c calls each function with each status: plain and with the address and undefined-behaviour sanitizers, and in
   valgrind. Each request for memory is refused in turn, alone and with all that follow, each time in a copy (`fork`) of the
   process that made the requests before, so that these are not made once more. The program with the sanitizers takes so long
   that only every seventh request is refused alone in it; with --long each one is.
@@ -30,9 +30,10 @@ import tempfile
 from collections import Counter
 from concurrent.futures import ThreadPoolExecutor
 
-from tests import harness, images, module
+from tests import harness
 from tests.harness import CC, EXAMPLES, TESTS, TOP
-from tests.library import code_word, command_of, load_rows, lrc_embed, of_version, risk_rows
+from tests.library import images, module
+from tests.library.library import code_word, command_of, load_rows, lrc_embed, of_version, risk_rows
 from tests.model import rules
 
 CRATES = ["lrc_records", "lrc_walks", "lrc_embed"]  # what the header declares: the structs, the outages, and the functions
@@ -498,7 +499,7 @@ def test_bundles(count, library):
 
 def build_calls(count, name, room, *flags):
     to = f"{room}/calls_{name}"
-    words = [CC, "-std=c11", *STRICT, *flags, "-I", INCLUDE, f"{TESTS}/embed.c", f"{room}/liblrc_embed.a", *COUNTED]
+    words = [CC, "-std=c11", *STRICT, *flags, "-I", INCLUDE, f"{TESTS}/library/embed.c", f"{room}/liblrc_embed.a", *COUNTED]
     return to if count.run(f"building embed.c ({name})", *words, "-o", to) is not None else None
 
 

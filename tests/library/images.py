@@ -4,7 +4,8 @@ import re
 
 from tests import harness
 from tests.harness import TOP, Node
-from tests.library import command_of
+from tests.library.library import command_of
+# (which tests/library/library.py has loaded)
 from lrc_embed import Book, Cause, Command, CommandKind, Fault, ModeKind, Status
 
 TWENTY = harness.nodes_in_order(20, 4)

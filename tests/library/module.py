@@ -7,7 +7,8 @@ import struct
 from itertools import islice
 
 from tests.harness import nodes_in_order, topology_of
-from tests.library import command_of
+from tests.library.library import command_of
+# (which tests/library/library.py has loaded)
 from lrc_embed import (RULES_VERSION, VERSION, Book, Cause, Code, Command, CommandKind, Entry, Fault, ModeKind, OtherVersion,
                        Outage, Status, encode, matrix, name_of, recipe_of, rules_version)
 

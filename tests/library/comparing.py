@@ -1,6 +1,7 @@
 """A book of the library beside a store of the model in tests/model/rules.py: what both report, and the calls that both make."""
-from tests import harness, library, walked
-from tests.library import lrc_embed
+from tests import harness
+from tests.library import library, walked
+from tests.library.library import lrc_embed
 from tests.model import image_text, recipe_rules, rules
 
 FRAGMENTS = range(lrc_embed.FRAGMENTS)

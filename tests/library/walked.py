@@ -3,8 +3,8 @@ tests/model/rules.py."""
 import copy
 from collections import Counter
 
-from tests import library
-from tests.library import lrc_embed
+from tests.library import library
+from tests.library.library import lrc_embed
 
 FRAGMENTS = range(lrc_embed.FRAGMENTS)
 

@@ -1,4 +1,4 @@
-// The matrices, recipes and buffers of lrc_embed.h beside ISA-L. tests/bytes builds and runs it.
+// The matrices, recipes and buffers of lrc_embed.h beside ISA-L. tests/library/bytes builds and runs it.
 // Usage: bytes SEED. It prints for each code how many sets can be decoded, how many recipes there are and how many of them read
 // 3, 6 and 12 fragments, and how many runs over buffers there were. It ends at the first difference, with status 1.
 #include "lrc_embed.h"

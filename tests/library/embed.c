@@ -1,4 +1,4 @@
-// Each function of lrc_embed.h with each of its statuses, from C. tests/embed builds and runs it, also where memory is
+// Each function of lrc_embed.h with each of its statuses, from C. tests/library/embed builds and runs it, also where memory is
 // refused: a call that memory was refused to has changed nothing that the looks show, and is made again. Before each call a
 // peek reports its reply, requests no memory, and changes nothing that the looks show.
 // Usage: embed [images | full | alone | onward]. It prints how many requests for memory there were. With `images` books also

@@ -1,8 +1,8 @@
 """A store that runs on: now and then an image of it is kept and its log is cut there, it forgets its entries, or it is closed
 and begins again in the last image, with the entries behind it. The book of the library is compared with the model."""
 from tests import harness
-from tests.comparing import STRIPES, Differs, compare, expect, make
-from tests.library import lrc_embed
+from tests.library.comparing import STRIPES, Differs, compare, expect, make
+from tests.library.library import lrc_embed
 from tests.model import draws, rules
 
 TWENTY = harness.nodes_in_order(20, 16)

@@ -4,7 +4,7 @@ import re
 from collections import Counter
 
 from tests import harness
-from tests.comparing import Differs, begun_in_book, begun_in_model, compare, expect, make
+from tests.library.comparing import Differs, begun_in_book, begun_in_model, compare, expect, make
 from tests.model import draws, rules
 from tests.model.draws import is_seldom, one_of
 from tests.model.rules import Cause, Node
