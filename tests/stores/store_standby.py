@@ -11,7 +11,7 @@ from statistics import median
 from tests.harness import loaded
 from tests.library.library import command_of, lrc_embed
 from tests.model import draws
-from tests.store_requests import STORES, TOPOLOGY, Requests, Running, check_other_version, next_version, pause
+from tests.stores.store_requests import STORES, TOPOLOGY, Requests, Running, check_other_version, next_version, pause
 
 STORE = os.path.join(STORES, "standby", "store.py")
 EPOCH = lrc_embed.Entry.reply.offset + lrc_embed.Reply.lease.offset + lrc_embed.Lease.epoch.offset

@@ -9,7 +9,7 @@ from collections import Counter
 
 from tests import harness
 from tests.library.library import lrc_embed
-from tests.store_requests import Running, check_other_version, compile_store, left_out, model_of, next_version
+from tests.stores.store_requests import Running, check_other_version, compile_store, left_out, model_of, next_version
 
 HEADERS = ("/usr/include/postgresql", "/usr/include")
 SLOTS = 10240  # of each node, shared out among the books

@@ -1,6 +1,6 @@
 """Runs the stores of examples/stores over the library of crates/lrc_embed.
 
-Usage: tests/stores [--long] FOLDER [NAME ..], where FOLDER has what examples/embed/build makes; by default all stores
+Usage: tests/stores/run [--long] FOLDER [NAME ..], where FOLDER has what examples/embed/build makes; by default all stores
 
 What each is tried with stands in the module of tests that has its name. What this machine lacks is printed and left out. The
 last line is 'N passed, M failed'."""
@@ -8,7 +8,8 @@ import os
 import sys
 import tempfile
 
-from tests import harness, store_books, store_durability, store_postgres, store_requests, store_sqlite, store_standby, store_threads
+from tests import harness
+from tests.stores import store_books, store_durability, store_postgres, store_requests, store_sqlite, store_standby, store_threads
 
 TESTS = {"sqlite": store_sqlite.test, "threads": store_threads.test, "durability": store_durability.test}
 OVER_POSTGRES = {"standby": store_standby.test, "books": store_books.test}

@@ -8,7 +8,7 @@ from xml.etree import ElementTree
 
 from tests import harness
 from tests.model import rules
-from tests.store_requests import STORES, check_other_version, compile_store, next_version
+from tests.stores.store_requests import STORES, check_other_version, compile_store, next_version
 
 FOLDER = os.path.join(STORES, "durability")
 closed_form, picture, table = (harness.loaded(f"{FOLDER}/{name}.py") for name in ("closed_form", "picture", "table"))

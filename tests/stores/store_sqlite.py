@@ -10,7 +10,7 @@ from itertools import count as numbers_from
 
 from tests.library.library import lrc_embed
 from tests.model import draws
-from tests.store_requests import STORES, TOPOLOGY, Requests, Running, check_other_version, next_version, pause
+from tests.stores.store_requests import STORES, TOPOLOGY, Requests, Running, check_other_version, next_version, pause
 
 STORE = os.path.join(STORES, "sqlite", "store.py")
 

@@ -6,7 +6,7 @@ import subprocess
 import time
 
 from tests.harness import loaded
-from tests.store_requests import STORES
+from tests.stores.store_requests import STORES
 
 
 def pq():

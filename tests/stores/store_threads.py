@@ -11,7 +11,7 @@ import zlib
 from tests.harness import read
 from tests.library.library import lrc_embed
 from tests.model import draws, rules
-from tests.store_requests import CXX, Running, check_other_version, compile_store, left_out, model_of, next_version, pause
+from tests.stores.store_requests import CXX, Running, check_other_version, compile_store, left_out, model_of, next_version, pause
 
 HEADER, RECORD = struct.Struct("<QII"), struct.Struct("<QQ128sII")
 REPLY = lrc_embed.Entry.reply.offset
