@@ -1,6 +1,6 @@
 //go:build faulty
 
-// With this tag the program does what it must never do, so that service/harness can be seen to find it; it takes its library for
+// With this tag the program does what it must never do, so that tests/service can be seen to find it; it takes its library for
 // one of other rules; the files of its log may be small, so that a test sees many of them; and a start may take long. service/build
 // never sets it.
 

@@ -5,8 +5,8 @@ import subprocess
 import time
 from email.utils import parsedate_to_datetime
 
-from service.harness.cluster import Asker, Group, Member
-from service.harness.one_member import wait_ready
+from tests.service.cluster import Asker, Group, Member
+from tests.service.one_member import wait_ready
 
 # Twice a second the time of day goes to another hour, and each process has other hours. The clock by which durations are
 # measured stays right, as in a machine whose time of day is set.

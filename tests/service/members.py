@@ -6,11 +6,11 @@ import shutil
 import subprocess
 import time
 
-from service.harness.cluster import Asker, Group, Member
-from service.harness.judge import image_of
-from service.harness.one_member import wait_ready
-from service.harness.work import Run, Work, asked_for, entries_of, filled, make_books
 from tests import harness
+from tests.service.cluster import Asker, Group, Member
+from tests.service.judge import image_of
+from tests.service.one_member import wait_ready
+from tests.service.work import Run, Work, asked_for, entries_of, filled, make_books
 
 WORDS = ["--election", "400ms", "--snapshot-every", "150", "--trailing", "20", "--tick", "0", "--timeout", "5s"]
 LAG = 1000  # so many entries a member may lack that comes to vote

@@ -3,10 +3,10 @@ import random
 import time
 from collections import Counter
 
-from service.harness.cluster import Group
-from service.harness.disks import Disks, NoDisk
-from service.harness.work import LEAST, Run, Work, make_books
 from tests import harness
+from tests.service.cluster import Group
+from tests.service.disks import Disks, NoDisk
+from tests.service.work import LEAST, Run, Work, make_books
 
 WORDS = ["--election", "400ms", "--snapshot-every", "60", "--trailing", "10", "--tick", "0"]
 

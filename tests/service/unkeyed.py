@@ -4,8 +4,8 @@ Each command is unlike any other, a report of an epoch that nobody was granted. 
 same. So the log of a book says of each command how often it was made."""
 from collections import Counter, namedtuple
 
-from service.harness.clients import Client, Told
-from service.harness.cluster import Asker
+from tests.service.clients import Client, Told
+from tests.service.cluster import Asker
 
 # A call as its client knows it. The status is 0 where there was no answer.
 Asked = namedtuple("Asked", "book command status n")

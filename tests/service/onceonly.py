@@ -4,12 +4,12 @@ import json
 import threading
 import time
 
-from service.harness.cluster import Asker, Group, Member
-from service.harness.network import Network
-from service.harness.one_member import wait_ready
-from service.harness.work import asked_for
 from tests import harness
 from tests.model.rules import Node
+from tests.service.cluster import Asker, Group, Member
+from tests.service.network import Network
+from tests.service.one_member import wait_ready
+from tests.service.work import asked_for
 
 BOOK, ELECTION = "p0", 0.5
 WORDS = ["--election", f"{ELECTION}s", "--tick", "0", "--compare", "1", "--timeout", "20s"]

@@ -7,10 +7,10 @@ import subprocess
 import time
 from collections import defaultdict, namedtuple
 
-from service.harness.cluster import Group
-from service.harness.etcds import Etcds, resident
 from tests.harness import topology_of
 from tests.model.rules import Node
+from tests.service.cluster import Group
+from tests.service.etcds import Etcds, resident
 
 # 512 nodes in 32 fault domains and 16 upgrade domains, with room for 4,096 wide stripes and half as much again.
 NODES = topology_of({number: Node(number % 32, (number + number // 32) % 16, 192) for number in range(512)})

@@ -8,9 +8,9 @@ import struct
 import threading
 import time
 
-from service.harness.cluster import Group
-from service.harness.work import Run, Work, make_books
 from tests import harness
+from tests.service.cluster import Group
+from tests.service.work import Run, Work, make_books
 
 REQUESTS, HANDS, CONNECTIONS = 2400, 12, 1200
 MOST_TERMS = 4  # that a group may need for itself on a busy machine

@@ -3,10 +3,10 @@ import os
 import random
 import time
 
-from service.harness.certificates import Authority, NoOpenssl
-from service.harness.cluster import Group
-from service.harness.makers import Maker
-from service.harness.work import Run, Work, make_books
+from tests.service.certificates import Authority, NoOpenssl
+from tests.service.cluster import Group
+from tests.service.makers import Maker
+from tests.service.work import Run, Work, make_books
 
 
 class Chaos:

@@ -5,9 +5,9 @@ import shutil
 import threading
 import time
 
-from service.harness.cluster import Asker, Group
-from service.harness.work import asked_for, make_books
 from tests import harness
+from tests.service.cluster import Asker, Group
+from tests.service.work import asked_for, make_books
 
 BOOK, CALLS = "p0", 20
 WORDS = ["--election", "500ms", "--tick", "0"]

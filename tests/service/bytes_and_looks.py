@@ -5,11 +5,11 @@ import multiprocessing
 import statistics
 import time
 
-from service.harness.cluster import Asker, Group
-from service.harness.etcds import resident
-from service.harness.work import make_books
 from tests import harness
 from tests.model.rules import Node
+from tests.service.cluster import Asker, Group
+from tests.service.etcds import resident
+from tests.service.work import make_books
 
 MEBIBYTE = 1 << 20
 MOST_RESIDENT = 300

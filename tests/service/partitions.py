@@ -2,11 +2,11 @@
 import random
 import time
 
-from service.harness.clients import Told
-from service.harness.cluster import Asker, Group
-from service.harness.network import CLIENT, Network, ways_between
-from service.harness.work import BOOKS, LEAST, Run, Work, make_books
 from tests import harness
+from tests.service.clients import Told
+from tests.service.cluster import Asker, Group
+from tests.service.network import CLIENT, Network, ways_between
+from tests.service.work import BOOKS, LEAST, Run, Work, make_books
 
 WORDS = ["--election", "500ms", "--snapshot-every", "150", "--trailing", "20", "--tick", "0", "--timeout"]
 

@@ -6,7 +6,7 @@ import threading
 import time
 from collections import namedtuple
 
-from service.harness.cluster import Asker
+from tests.service.cluster import Asker
 
 # A call as its client knows it; the times are seconds of one clock.
 Told = namedtuple("Told", "client book key session worker command n reply holder begun told")

@@ -6,12 +6,12 @@ import os
 import re
 import time
 
-from service.harness.clients import Caller
-from service.harness.cluster import Asker, Group
-from service.harness.damaged import change_byte
-from service.harness.disks import Disks, NoDisk
 from tests import harness
 from tests.model import rules
+from tests.service.clients import Caller
+from tests.service.cluster import Asker, Group
+from tests.service.damaged import change_byte
+from tests.service.disks import Disks, NoDisk
 
 BOOK = "p0"
 ROUNDS, CALLS = 4, 25  # of a run: calls, and then a snapshot

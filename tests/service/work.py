@@ -1,9 +1,9 @@
 """Books, clients that work on them over a group, and what their answers have to be."""
 import time
 
-from service.harness.clients import Caller, Entry, Looker, Reader
-from service.harness.judge import image_of, judge
-from service.harness.unkeyed import Unkeyed, unkeyed_faults
+from tests.service.clients import Caller, Entry, Looker, Reader
+from tests.service.judge import image_of, judge
+from tests.service.unkeyed import Unkeyed, unkeyed_faults
 
 BOOKS = ["p0", "p1", "p2"]
 LEAST = 50  # so many calls are told in a run, on a slow machine too

@@ -1,8 +1,8 @@
 """A client that makes a book of its own, looks at it, goes on over other nodes and removes it, again and again.
 
 Nobody else touches its book. So each look as of now is just what it was told before, whatever happens to the members."""
-from service.harness.clients import Client
-from service.harness.cluster import Asker
+from tests.service.clients import Client
+from tests.service.cluster import Asker
 
 
 class Maker(Client):

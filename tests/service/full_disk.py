@@ -5,10 +5,10 @@ import shutil
 import subprocess
 import time
 
-from service.harness.cluster import Asker, Group
-from service.harness.one_member import wait_ready
-from service.harness.work import Run, Work, asked_for, make_books
 from tests import harness
+from tests.service.cluster import Asker, Group
+from tests.service.one_member import wait_ready
+from tests.service.work import Run, Work, asked_for, make_books
 
 # Small files of the log: two are made in advance, and a member does not ask for room before they are full.
 MEGABYTES, FILE, RESERVE = 16, {"LRCMAND_LOG_FILE": "16384"}, 4 << 20

@@ -6,11 +6,11 @@ import shutil
 import subprocess
 import time
 
-from service.harness.clients import Caller
-from service.harness.cluster import Asker, Group, Member
-from service.harness.one_member import wait_ready
 from tests import harness
 from tests.model import rules
+from tests.service.clients import Caller
+from tests.service.cluster import Asker, Group, Member
+from tests.service.one_member import wait_ready
 
 BOOK = "p0"
 CALLS = 130

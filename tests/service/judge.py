@@ -2,8 +2,8 @@
 from bisect import bisect_left
 from collections import defaultdict
 
-from service.harness.unkeyed import is_unkeyed
 from tests.model import rules
+from tests.service.unkeyed import is_unkeyed
 
 
 def judge(nodes, logs, told, looks, ticks=False):

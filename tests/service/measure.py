@@ -24,9 +24,9 @@ import subprocess
 import sys
 import tempfile
 
-from service.harness import measures
-from service.harness.measures import median
 from tests.harness import TOP
+from tests.service import measures
+from tests.service.measures import median
 
 SERVICE = os.path.join(TOP, "service")
 # What is wanted: so many times the puts of etcd, and so many seconds.

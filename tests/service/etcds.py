@@ -4,7 +4,7 @@ import shutil
 import subprocess
 import time
 
-from service.harness.cluster import Asker, free_port
+from tests.service.cluster import Asker, free_port
 
 
 class Etcds:

@@ -8,9 +8,9 @@ import subprocess
 import threading
 import time
 
-from service.harness.cluster import Asker, Group, Member
-from service.harness.one_member import wait_ready
 from tests import harness
+from tests.service.cluster import Asker, Group, Member
+from tests.service.one_member import wait_ready
 
 ELECTION, BOOK = 1.0, "p0"
 WORDS = ["--election", f"{ELECTION}s", "--tick", "0"]

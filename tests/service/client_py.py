@@ -11,13 +11,13 @@ import time
 from collections import Counter
 from concurrent.futures import ThreadPoolExecutor
 
-from service.harness.certificates import Authority, NoOpenssl
-from service.harness.cluster import Asker, Group, Member
-from service.harness.fake_group import FAULTS, NOTHING, FakeGroup
-from service.harness.network import Network, ways_between
-from service.harness.one_member import wait_ready
 from tests.harness import TOP, example, loaded, parts_of, split, topology_of
 from tests.model import rules
+from tests.service.certificates import Authority, NoOpenssl
+from tests.service.cluster import Asker, Group, Member
+from tests.service.fake_group import FAULTS, NOTHING, FakeGroup
+from tests.service.network import Network, ways_between
+from tests.service.one_member import wait_ready
 
 SERVICE = os.path.join(TOP, "service")
 lrcmand_client = loaded(f"{SERVICE}/client/lrcmand_client.py")
@@ -158,7 +158,7 @@ ROOMY = {number: rules.Node(number % 18, number % 12, 6) for number in range(36)
 
 
 class GoCaller:
-    """A process of harness/caller."""
+    """A process of service/internal/caller."""
 
     def __init__(self, program, ports, *words):
         servers = ",".join(f"127.0.0.1:{port}" for port in ports)

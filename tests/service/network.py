@@ -8,7 +8,7 @@ import struct
 import threading
 import time
 
-from service.harness.cluster import free_port
+from tests.service.cluster import free_port
 
 CLIENT = 0  # the number of all clients; members have theirs
 SENDER = re.compile(rb"X-Server-From: ([0-9a-f]+)\r\n")

@@ -1,8 +1,8 @@
 """A group goes from one version of the rules to the next, by members that are restarted with another program."""
-from service.harness.cluster import Group
-from service.harness.work import asked_for, make_books
 from tests import harness
 from tests.model import rules
+from tests.service.cluster import Group
+from tests.service.work import asked_for, make_books
 
 # The program with the tag `faulty` takes its library for one of the rules that this names.
 OLD, NEW = {"LRCMAND_RULES": "1"}, {"LRCMAND_RULES": "2"}

@@ -1,8 +1,8 @@
 """A book moves from one member alone to another, by the steps of docs/SERVICE.md, and goes on there as it was."""
-from service.harness.cluster import Asker, Group, Member
-from service.harness.one_member import wait_ready
 from tests import harness
 from tests.model import rules
+from tests.service.cluster import Asker, Group, Member
+from tests.service.one_member import wait_ready
 
 EXAMPLES = ["every_reply", "lease_ends", "rolling_upgrade", "narrow_stripe_placed_anew"]
 

@@ -13,9 +13,9 @@ import subprocess
 import threading
 import time
 
-from service.harness.cluster import Asker, Group, Member, free_port
-from service.harness.one_member import wait_ready
 from tests import harness
+from tests.service.cluster import Asker, Group, Member, free_port
+from tests.service.one_member import wait_ready
 
 CONNECTIONS = 5000
 JSON = {"Content-Type": "application/json"}

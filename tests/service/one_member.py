@@ -3,9 +3,9 @@ import os
 import subprocess
 import time
 
-from service.harness.cluster import Asker, Group, Member
 from tests import harness
 from tests.model import recipe_rules, rules, shown
+from tests.service.cluster import Asker, Group, Member
 
 
 def wait_ready(asker, member, limit=10):

@@ -45,28 +45,28 @@ import sys
 import tempfile
 import time
 
-from service.harness.bytes_and_looks import test_bytes, test_calls_beside_looks
-from service.harness.chaos import chaos
-from service.harness.client_py import test_clients, test_examples, test_looks, test_python_client, test_tls
-from service.harness.clocks import NoClock, build_jumping, hours_away
-from service.harness.crash_points import test_crash_points
-from service.harness.damaged import test_damage, test_other_folders
-from service.harness.full_disk import test_full_disk
-from service.harness.limits import test_limits
-from service.harness.lost_folder import test_lost_folders
-from service.harness.members import test_members
-from service.harness.move import test_move
-from service.harness.onceonly import test_once_only
-from service.harness.one_member import test_one_member
-from service.harness.operators import test_operators
-from service.harness.partitions import test_network
-from service.harness.powercuts import test_power_cuts
-from service.harness.strangers import test_strangers
-from service.harness.versions import test_versions
-from service.harness.work import LEAST
 from tests import harness
 from tests.harness import TOP, Count
 from tests.model.rules import Node
+from tests.service.bytes_and_looks import test_bytes, test_calls_beside_looks
+from tests.service.chaos import chaos
+from tests.service.client_py import test_clients, test_examples, test_looks, test_python_client, test_tls
+from tests.service.clocks import NoClock, build_jumping, hours_away
+from tests.service.crash_points import test_crash_points
+from tests.service.damaged import test_damage, test_other_folders
+from tests.service.full_disk import test_full_disk
+from tests.service.limits import test_limits
+from tests.service.lost_folder import test_lost_folders
+from tests.service.members import test_members
+from tests.service.move import test_move
+from tests.service.onceonly import test_once_only
+from tests.service.one_member import test_one_member
+from tests.service.operators import test_operators
+from tests.service.partitions import test_network
+from tests.service.powercuts import test_power_cuts
+from tests.service.strangers import test_strangers
+from tests.service.versions import test_versions
+from tests.service.work import LEAST
 
 SERVICE = os.path.join(TOP, "service")
 SECONDS, LONG, MOST_RUNS = 10, 120, 10
@@ -95,7 +95,7 @@ def expect_quiet(count, name, ran):
 
 
 def test_go(count, library):
-    expect_quiet(count, "gofmt", go(library, "gofmt -l client cmd internal harness"))
+    expect_quiet(count, "gofmt", go(library, "gofmt -l client cmd internal"))
     expect_quiet(count, "go vet", go(library, "go vet $(go_packages) && go vet -tags faulty $(go_packages)"))
     program = next((it for it in ("staticcheck", "go-staticcheck") if shutil.which(it)), None)
     if program:
@@ -197,7 +197,7 @@ def test_both_clients(count, program, library, room):
     test_looks(count, program, room)
     test_tls(count, program, room)
     test_examples(count, program, library, room)
-    expect_quiet(count, "caller", go(library, f"go build -o {room}/caller lrcman/service/harness/caller"))
+    expect_quiet(count, "caller", go(library, f"go build -o {room}/caller lrcman/service/internal/caller"))
     test_clients(count, program, f"{room}/caller", room, NODES)
 
 
