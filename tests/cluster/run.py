@@ -1,6 +1,6 @@
 """Runs the small store of examples/cluster: nodes, a gateway and workers over the service.
 
-Usage: tests/cluster [--long] FOLDER [SEED], where FOLDER has what examples/embed/build makes. The seed, by default that of
+Usage: tests/cluster/run [--long] FOLDER [SEED], where FOLDER has what examples/embed/build makes. The seed, by default that of
 the hour, is printed
 
 - gofmt, go vet and staticcheck find nothing, and the tests of the program pass.
