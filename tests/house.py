@@ -26,8 +26,9 @@ import os
 import re
 import sys
 
-from tests import clauses, harness
+from tests import harness
 from tests.harness import TOP
+from tests.proofs import clauses
 
 TABLE = f"{harness.TESTS}/ceilings"
 ROOTS = ("crates", "docs", "service", "examples", "tests", "tools", "bench")

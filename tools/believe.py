@@ -18,8 +18,9 @@ import re
 import sys
 from collections import namedtuple
 
-from tests import clauses, harness
-from tests.clauses import TOP
+from tests import harness
+from tests.proofs import clauses
+from tests.proofs.clauses import TOP
 
 INTERNAL = "-- Internal: no public clause reaches these definitions."
 IMPORT = re.compile(r"\buse\s+Rattle\.(\w+)\.specs\.([A-Z]\w*)(?:\.\{([^}]*)\}|\s+as\s+(\w+))")

@@ -1,5 +1,5 @@
 //! One call in which allocations can fail: a mark, the call, and a second mark, with all that can be asked before and after.
-//! `tests/growth` refuses memory between the marks, and compares the output.
+//! `tests/proofs/growth` refuses memory between the marks, and compares the output.
 
 mod books;
 mod keepers;

@@ -1,5 +1,5 @@
 //! The program `probes` tries and measures the crates below from inside. `probes growth CALL TEXT` makes one call in which
-//! allocations can fail, for `tests/growth`; `probes looks READERS LOOKS CALLS` makes calls while others look, for `bench/looks`.
+//! allocations can fail, for `tests/proofs/growth`; `probes looks READERS LOOKS CALLS` makes calls while others look, for `bench/looks`.
 #![tactic(auto)]
 
 mod growth;

@@ -1,6 +1,6 @@
 """Builds the library of crates/lrc_embed over the crates that `rt ci` has just proved, so that nothing is proved twice.
 
-Usage: tests/build_library SINCE FOLDER, where SINCE is a file that was made before that run began
+Usage: tests/proofs/build_library SINCE FOLDER, where SINCE is a file that was made before that run began
 
 `rt ci` builds libraries without the stamp by which `rt lib` finds that one is up to date. Where all libraries below
 lrc_embed were built since then, they get that stamp here. Else, as after a run that failed, or with another kit,
@@ -8,8 +8,8 @@ examples/embed/build proves all of it once more."""
 import os
 import sys
 
-from tests import kit
 from tests.harness import TOP
+from tests.proofs import kit
 
 
 def stamp(since):

@@ -1,12 +1,13 @@
 """Runs the tests of each crate that has some, by `rt try --test`: it compiles them with checks, and proves nothing.
 
-Usage: tests/tried [NAME..], by default every crate with a #[test] function. The last line is 'N passed, M failed'."""
+Usage: tests/proofs/tried [NAME..], by default every crate with a #[test] function. The last line is 'N passed, M failed'."""
 import re
 import subprocess
 import sys
 
-from tests import clauses, harness
+from tests import harness
 from tests.harness import TOP
+from tests.proofs import clauses
 
 RESULT = re.compile(r"^test result: \w+\. (\d+) passed; (\d+) failed", re.MULTILINE)
 

@@ -1,8 +1,8 @@
 """Tries the wrong bodies of crates, each of which the prover has to refuse, and keeps what it said of them.
 
-Usage: tests/edits [NAME..]     tries the edits of these crates, by default of all: some checks of each crate
-       tests/edits --stale      tries those of which --check says that they are to be tried again
-       tests/edits --check      proves nothing, and takes seconds
+Usage: tests/proofs/edits [NAME..]     tries the edits of these crates, by default of all: some checks of each crate
+       tests/proofs/edits --stale      tries those of which --check says that they are to be tried again
+       tests/proofs/edits --check      proves nothing, and takes seconds
 
 An edit is a file crates/NAME/must-fail/*.edit or crates/NAME/more-edits/*.edit. `rt ci` tries those of must-fail at each
 run. All others are tried by this script when what they are tried over has changed. It checks a copy of the crate over the
@@ -40,8 +40,9 @@ import subprocess
 import sys
 import tempfile
 
-from tests import clauses, harness, kit
+from tests import harness
 from tests.harness import TOP
+from tests.proofs import clauses, kit
 
 GOAL = re.compile(r"(?:error: |\()`([\w-]+)")
 # Goals that a body owes whatever its contract says; a `requires` of std is one of them.
@@ -328,10 +329,10 @@ def check(names):
         for edit in edits:
             fault = edit.fault()
             count.check(f"{crate}/{edit.name} no longer applies: {fault}", not fault)
-            count.check(f"{crate}/{edit.name} is not known to be refused: tests/edits {crate}", is_known(edit, verdicts))
+            count.check(f"{crate}/{edit.name} is not known to be refused: tests/proofs/edits {crate}", is_known(edit, verdicts))
         for part, what in (("statements", "a clause or a definition of it"), ("below", "a definition that its clauses name")):
             is_same = sums.get(part) == now[part]
-            count.check(f"{crate}: {what} has changed since its edits were tried, so they are stale: tests/edits {crate}", is_same)
+            count.check(f"{crate}: {what} has changed since its edits were tried, so they are stale: tests/proofs/edits {crate}", is_same)
         if any(sums.get(part) != now[part] for part in ("sources", "proofs")):
             changed.append(f"{crate} ({len(edits)})")
     if changed:

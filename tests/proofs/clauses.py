@@ -1,6 +1,6 @@
 """What callers of a crate can read of it, as text: the clauses of its public functions, its public types, its definitions.
 
-A sum over these tells tests/edits whether a statement has changed since wrong bodies were tried. So bodies, private
+A sum over these tells tests/proofs/edits whether a statement has changed since wrong bodies were tried. So bodies, private
 functions, comments, imports, attributes and layout are left out."""
 import functools
 import hashlib

@@ -1,6 +1,6 @@
 """Refuses each request for memory of one call in turn, call by call, and compares the state before and after it.
 
-Usage: tests/growth [PROGRAM], by default the program that `rt ci` or `rt run` has built in crates/probes.
+Usage: tests/proofs/growth [PROGRAM], by default the program that `rt ci` or `rt run` has built in crates/probes.
 
 The program prints its whole state, makes one call between two marks, prints the result and the state again. Where memory was
 refused to the call, it makes it once more. tests/program/calls.c refuses memory between the first two marks alone. Right is only:

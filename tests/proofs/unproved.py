@@ -1,6 +1,6 @@
 """Compiles the program without any proof, and keeps it.
 
-Usage: tests/unproved CRATE FILE    keeps the program of a crate as FILE
+Usage: tests/proofs/unproved CRATE FILE    keeps the program of a crate as FILE
 
 `rt try` compiles a program with checks, runs it and removes it. So this runs it on an input that takes some seconds, and
 links the file that it runs to FILE meanwhile. The program stops where a check fails: an index out of its range, a sum that
@@ -31,7 +31,7 @@ def main(crate, file):
                 run.terminate()
             said = run.communicate()[1].decode(errors="replace")
     if not found:
-        print(said[-2000:], "tests/unproved: rt try has run no program", sep="\n", file=sys.stderr)
+        print(said[-2000:], "tests/proofs/unproved: rt try has run no program", sep="\n", file=sys.stderr)
         return 1
     return 0
 
