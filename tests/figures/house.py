@@ -1,10 +1,10 @@
-"""Counts what should not grow, and fails where a figure is above its ceiling in tests/ceilings.
+"""Counts what should not grow, and fails where a figure is above its ceiling in tests/figures/ceilings.
 
-Usage: tests/house                               counts, a second or two, and compares; tells too where a figure fell below
-       tests/house --write [--raise NAME ..]     writes lower figures into the table, and higher ones of these names alone: the
-                                                 commit says why they rise
-       tests/house --list                        prints the names and the pairs of places
-       tests/house --self-test                   counts in small texts alone, of which the figures are known
+Usage: tests/figures/house                             counts, a second or two, and compares; tells too where a figure fell below
+       tests/figures/house --write [--raise NAME ..]   writes lower figures into the table, and higher ones of these names alone:
+                                                       the commit says why they rise
+       tests/figures/house --list                      prints the names and the pairs of places
+       tests/figures/house --self-test                 counts in small texts alone, of which the figures are known
 
 A line of the table has a name, its figure and what it counts. The last line is 'N passed, M failed'. Each figure is counted in
 a small text too, so that one that counts nothing is seen. Nothing in a folder out/ counts. How it counts:
@@ -30,7 +30,7 @@ from tests import harness
 from tests.harness import TOP
 from tests.proofs import clauses
 
-TABLE = f"{harness.TESTS}/ceilings"
+TABLE = f"{harness.TESTS}/figures/ceilings"
 ROOTS = ("crates", "docs", "service", "examples", "tests", "tools", "bench")
 PAGES = ("README.md", "CONTRIBUTING.md")
 COMMANDS = "place place6 drop lease next done abandon revoke fail down up drain undrain retire join upgrade upgraded tick".split()
@@ -358,7 +358,7 @@ def write(found, raised):
             higher.append(name)
         kept[name] = figure if is_lower or name in raised else table.get(name)
     with open(TABLE, "w", encoding="utf-8") as file:
-        file.write("# What should not grow: tests/house says how it counts, and writes this table.\n")
+        file.write("# What should not grow: tests/figures/house says how it counts, and writes this table.\n")
         file.writelines(f"{name:20} {figure:6}  {FIGURES[name].words}\n" for name, figure in kept.items() if figure is not None)
     return higher
 
@@ -367,14 +367,14 @@ def compare(count, found):
     """Holds what was counted to the table."""
     table = ceilings()
     for name in sorted(table.keys() - FIGURES.keys()):
-        count.check(f"tests/ceilings has a row {name}, which nothing counts", False)
+        count.check(f"tests/figures/ceilings has a row {name}, which nothing counts", False)
     for name, figure in found.items():
         ceiling = table.get(name, -1)
-        where = f"above {table[name]} in tests/ceilings" if name in table else "and no row in tests/ceilings"
+        where = f"above {table[name]} in tests/figures/ceilings" if name in table else "and no row in tests/figures/ceilings"
         count.check(f"{name}: {figure}, {where}: {FIGURES[name].words}. Lower it; or, if what it buys is worth it, "
-                    f"tests/house --write --raise {name}, and say in the commit what that is", figure <= ceiling)
+                    f"tests/figures/house --write --raise {name}, and say in the commit what that is", figure <= ceiling)
         if figure < ceiling:
-            print(f"fell: {name}: {figure}, below {ceiling}: write it with tests/house --write")
+            print(f"fell: {name}: {figure}, below {ceiling}: write it with tests/figures/house --write")
 
 
 def main(given):
