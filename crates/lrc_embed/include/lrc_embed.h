@@ -93,7 +93,7 @@ enum lrc_status {
     LRC_INVALID_IMAGE = 23, // the first line that the nodes or the lines before it do not allow; cause: an lrc_cause
 };
 
-// Why the nodes or the lines before it do not allow a line of an image. docs/EMBEDDING.md has the order in which they are
+// Why the nodes or the lines before it do not allow a line of an image. docs/FORMATS.md has the order in which they are
 // asked.
 enum lrc_cause {
     LRC_CAUSE_UNKNOWN_DOMAIN = 1,   // `upgrading`: no node is in this domain
