@@ -38,7 +38,7 @@ const (
 type Config struct {
 	Servers []string // of members: http://HOST:PORT, https://HOST:PORT, or HOST:PORT for http
 	Token   string   // goes with each request; "": none does
-	CA      string   // the file with the certificates of who signs those of members; "": those of the system
+	CA      string   // CA file that certificates of members must chain to; "": those of the system
 	Cert    string   // the file with a certificate to be shown, and Key the one with its key
 	Key     string
 	// FindMembers lets the Client ask members that GET /members names, too. Their addresses for clients have to be reachable.

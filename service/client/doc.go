@@ -15,8 +15,8 @@
 // first try. Both are the same in each try, so that it is made once however often it is sent. These errors say more than that it
 // failed:
 //
-//   - An OutcomeUnknown: it was sent, and nobody has told what came of it. It may have been made, or still be made. Ask again
-//     with its key and since, by WithKey, now or in another process: then it is made once all the same.
+//   - An OutcomeUnknown: it was sent, and its outcome is unknown. It may have been made, or still be made. Retry with its key
+//     and since, by WithKey, now or in another process: then it is made once all the same.
 //   - A KeyForgotten: it may have been made, and the group has forgotten its key since. Nobody will know by this key: look at the
 //     book.
 //

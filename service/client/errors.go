@@ -44,7 +44,7 @@ func (e *Error) Error() string {
 	return fmt.Sprintf("%s (%d from %s)", words, e.Status, e.Server)
 }
 
-// An OutcomeUnknown says that nobody has told what came of a request: it may have been made, or still be made. To ask again by
+// An OutcomeUnknown says that the outcome of a request is unknown: it may have been made, or still be made. To retry by
 // WithKey(Key, Since) makes it once all the same. Where Key is empty, asking again changes nothing that was made.
 type OutcomeUnknown struct {
 	Key   string
@@ -54,7 +54,7 @@ type OutcomeUnknown struct {
 
 // Error has what went wrong, and says that the outcome is unknown.
 func (u *OutcomeUnknown) Error() string {
-	return fmt.Sprintf("nobody has told whether it was made: %v", u.Err)
+	return fmt.Sprintf("outcome unknown: %v", u.Err)
 }
 
 // Unwrap is what went wrong last.
@@ -68,9 +68,9 @@ type KeyForgotten struct {
 	Err   error // the answer of the member
 }
 
-// Error has the answer, and says that nobody can know.
+// Error has the answer, and says that the outcome stays unknown.
 func (f *KeyForgotten) Error() string {
-	return fmt.Sprintf("nobody can know whether it was made: %v", f.Err)
+	return fmt.Sprintf("outcome unknown, and the key is forgotten: %v", f.Err)
 }
 
 // Unwrap is the answer of the member.

@@ -14,8 +14,8 @@ alone so long. Threads may share it: each of them has connections of its own.
 Each request is made at most once. Every one that changes a book or makes one has a random key, and a `since`: an index of the log
 that was heard before its first try. Both are the same in each try. These errors say more than that it failed:
 
-- OutcomeUnknown: it was sent, and nobody has told what came of it. It may have been made, or still be made. Ask again with its
-  `key` and `since`, now or in another process: then it is made once all the same.
+- OutcomeUnknown: it was sent, and its outcome is unknown. It may have been made, or still be made. Retry with its `key` and
+  `since`, now or in another process: then it is made once all the same.
 - KeyForgotten: it may have been made, and the group has forgotten its key since. To ask again does not help: look at the book.
 
 Any other error of such a request says that nothing was made. A StatusError is the answer of a member, with its status and its
@@ -62,11 +62,11 @@ class StatusError(LrcmandError):
 
 
 class OutcomeUnknown(LrcmandError):
-    """Nobody has told what came of a request: it may have been made, or still be made. Asked again with `key` and `since`, it is
-    made once all the same. Where `key` is None, asking again changes nothing that was made."""
+    """The outcome of a request is unknown: it may have been made, or still be made. Retried with `key` and `since`, it is made
+    once all the same. Where `key` is None, asking again changes nothing that was made."""
 
     def __init__(self, key: str | None, since: int, why: object):
-        super().__init__(f"nobody has told whether it was made: {why}")
+        super().__init__(f"outcome unknown: {why}")
         self.key, self.since, self.why = key, since, why
 
 
@@ -74,7 +74,7 @@ class KeyForgotten(LrcmandError):
     """A request may have been made, and the group has forgotten its key since. To ask again does not help."""
 
     def __init__(self, key: str, since: int, why: object):
-        super().__init__(f"nobody can know whether it was made: {why}")
+        super().__init__(f"outcome unknown, and the key is forgotten: {why}")
         self.key, self.since, self.why = key, since, why
 
 

@@ -1,4 +1,4 @@
-"""One byte of a member's folder is another one: it ends with a word, or goes on and shows what the model shows."""
+"""One byte of a member's folder is another one: it exits and says why, or continues and shows what the model shows."""
 import glob
 import os
 import random

@@ -1,4 +1,4 @@
-"""A member whose disk is nearly full takes no changes; one whose disk is full ends with a word, and goes on when there is room again.
+"""A member whose disk is nearly full takes no changes; one whose disk is full exits and says why, and continues when there is room.
 Nothing that was told is lost."""
 import os
 import shutil

@@ -351,11 +351,11 @@ class Recipe:
 
 
 def test_recipes(count, program, room, topology):
-    """The recipes of the page, word for word: a member comes and goes; a backup is restored; and a member goes on alone."""
+    """The recipes of the page, word for word: a member is added and removed, a backup restored, and a lone member recovered."""
     if not shutil.which("curl"):
         print("left out: recipes of the page: there is no curl", flush=True)
         return
-    with Recipe("**A member comes.**", "| Option |", program, f"{room}/members") as recipe:
+    with Recipe("\n## Members\n", "\n## ", program, f"{room}/members") as recipe:
         recipe.begin_alone(count, topology)
         recipe.run_block(count, 0)
         await_row(count, "it votes", recipe.group, recipe.host(1), 4, votes)

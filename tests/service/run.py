@@ -2,39 +2,55 @@
 
 Usage: service/test [--long] [--library FOLDER], where FOLDER has what examples/embed/build makes; by default examples/embed/out
 
-- gofmt, go vet and staticcheck find nothing; the tests of each package pass with the race detector.
-- One member: it is ready within a second, is killed and goes on; its tables are those of tests/model/shown.py, byte for byte.
-- What an operator sees: versions and options, a start, an end under load without an election, what systemd is told.
+- gofmt, go vet and staticcheck find nothing; the tests of each package pass with the race detector. Fuzz tests of the readers of calls,
+  log entries and snapshot records run over their seeds. openapi.json is made of the table of routes, and each answer in the tests of the
+  interface is held against it. Page, metrics and ctl show states and counts that the plain model wrote (internal/survey/recorded); the
+  rules of alerts are read by a parser that knows the metrics and labels; Chromium shows the page of each state as the model has it.
+- One member: it is ready within a second, is killed and continues; its tables are those of tests/model/shown.py, byte for byte, and its
+  recipes are right by that model.
+- What an operator sees: versions and options, a start, an end under load without an election, what systemd is sent.
 - A book moves from one member to another, call by call as the model has it.
-- Members at addresses where nobody listens don't strand a group, and changes that would are refused; a backup under load is restored,
-  and a member goes on alone when the others are lost; the recipes of the page for all this are run word for word.
-- Thousands of connections, bodies and requests by chance leave health and calls as they were; pages of elsewhere command nothing; each
-  role, name and book has its rights over TLS.
-- Three members and more, of which some are killed, stopped, woken, added and removed while clients call, look and read logs. Each
-  told reply stands in the log of its book, in each client's order, none twice; no look is older than it says; the log is a
-  history of tests/model/rules.py, and all members have its image in the end. Ten seconds, or two minutes with --long, which makes
-  the other runs longer too: ten minutes in all.
-- service/measure --quick has all its rows, and each reply that is told in it is an entry.
-- The clients of Go and of Python make each call at most once, and tell what came of it rightly: over a fake group that does what
-  goes wrong, and over members that are killed and cut off while a book forgets its keys. Their examples run as they stand.
-- Members speak over links that hang, lose one direction, are late or are reset, and answers to clients break off: all the same
-  has to hold. A leader that only clients reach tells nothing, and has no look as of now; the others go on without it.
-- One byte of a folder is changed, of each kind of file: the member ends with a word, or goes on as the model has it. A folder of
-  another number or another group is refused.
-- A strange hand sends the port of members 2,400 requests that no member sends, and opens 1,200 connections: the group serves calls
-  meanwhile, has no other entry, and stays in its term. A folder that was emptied, that of another member and an older copy are
-  refused by name, and every call that was told is there; a web server at the address of a member that is down ends nobody.
-- What is told of calls is so, also where a member hears nothing of its leader, its words are lost and keys are forgotten, or where
-  two of three members are gone: 200 is made once, 503 never, 504 at most once. A member that was stopped makes up for no ticks.
+- Members at addresses where nobody listens don't strand a group, and changes that would are refused; a backup under load is restored
+  with all that was acknowledged before it, with its keys and leases, and every book at one place of the log; a member continues alone
+  with all that was acknowledged when the others are lost. The recipes of the page for all this are run word for word.
+- 5,000 connections that are idle, send half a head, a slow body or one that nobody reads, or are silent in a handshake leave /health
+  under a tenth of a second; 100 bodies of 8 MiB at once stay below 600 MB, and each is answered; 20,000 requests by chance, by a seed
+  that is printed, find no fault and leave no descriptor or memory. Pages of other origins command nothing; each role, name and book has
+  its rights over TLS and no others.
+- Three to five members, of which some are killed, stopped, woken, made leader, added and removed while clients call, look and read logs.
+  Each acknowledged reply stands in the log of its book, in each client's order, none twice; no look is older than it says; the log is a
+  history of tests/model/rules.py, and all members have its image in the end. Ten seconds, or two minutes with --long, which makes the other
+  runs longer too: ten minutes in all.
+- service/measure --quick has all its rows, and each reply in it that is acknowledged is an entry; no figure is judged. Each run shows
+  that this count finds a reply that is no entry.
+- The clients of Go and of Python make each call at most once, and report rightly what came of it: over a fake group that does what goes
+  wrong and knows few keys, and over members that are killed and cut off while a book forgets its keys. What they read of tables is that
+  of a member and of the model. Their examples run as they stand.
+- Members speak over links that hang, lose one direction, are late or are reset, and answers to clients hang or break off after any byte:
+  all the same has to hold. A leader that only clients reach acknowledges nothing, and has no look as of now; the others continue. A
+  program that leaves out the question to a majority is found.
+- One byte of the newest file of each kind is changed, at places by chance: the member exits and says why, or continues, says what it
+  passed over, and has the image of the model. A folder of another number or another group is refused, and left as it is.
+- Strangers send the port of members 2,400 requests that no member sends, and open 1,200 connections: the group serves calls meanwhile,
+  has no other entry, and its terms and memory stay in bounds. A folder that was emptied, that of another member and an older copy are
+  refused by name, and every call that was acknowledged is there; a web server that answers 410 and 403 at the address of a member that is
+  down ends nobody.
+- Answers to calls without keys are right, also where a member hears nothing of its leader, or where two of three members are gone: 200 is
+  made once, 503 never, 504 at most once. A call with a key whose answer is lost is not made again after 4,096 others, and a book that is
+  made and removed meanwhile stays away. A member that was stopped makes up for no ticks. One of three with other checksums shows its
+  book to nobody.
 - Members stay small however large the entries of their log are, and a call waits for few of the looks at its book.
-- With --long, members whose time of day jumps by hours, as their answers show, do as the others.
-- The disk of a member is full: it ends with a word, and goes on when there is room again.
-- Members lose power, one or all at once: their folders are on disks in memory that know what was synced, and what was not is
-  lost, torn or kept. All the same has to hold. A program that does not sync its log, or not its names, is found.
-- Members end before each step of a snapshot that is written or that comes, and of a log that is cut, by kills and by power cuts:
-  each start has all that was told. A part of the steps, by a seed, or all with --long.
-- A program that tells before it has committed, and one that tells a wrong age, are found by the same.
-- A group goes from one version of the rules to the next, and a program of the one before ends with a word.
+- With --long, members whose time.Now goes to another hour twice a second, while durations stay right, do as the others.
+- The disk of a member is full: it exits and says why, and continues when there is room again.
+- Members lose power, one or all at once: their folders are on disks in memory, mounted by FUSE, that know what was synced. Of the rest a
+  cut loses, tears or keeps each page, and loses or keeps each name. Members start on what is left, also with small files of the log and
+  many snapshots. All the same has to hold. A program that does not sync its log, or not its names, is found.
+- Members end before each step of a snapshot that is written or that comes, and of a log that is cut, by kills and by power cuts: each
+  start has all that was acknowledged, also from the snapshot before where the newest is damaged. A part of the steps, by a seed, or all
+  with --long.
+- A program that acknowledges before it has committed, and one that reports a wrong age, are found by the same. Such programs are made
+  with a tag that service/build never sets.
+- A group goes from one version of the rules to the next, and a program of the one before exits and says why.
 
 What this machine lacks is printed and left out. The last line is 'N passed, M failed'."""
 import os

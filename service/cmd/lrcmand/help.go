@@ -15,7 +15,7 @@ const help = `usage: lrcmand --data DIR [OPTIONS]         runs a member
        lrcmand recover --data DIR           makes a new group of one of a member whose majority is lost
        lrcmand ctl COMMAND                  asks a service and commands it; lrcmand ctl -h tells more
 
-Each option may stand in the environment too: --snapshot-every as LRCMAND_SNAPSHOT_EVERY. docs/SERVICE.md describes them.
+The environment may set options too: LRCMAND_SNAPSHOT_EVERY for --snapshot-every. docs/SERVICE.md says more.
 
 `
 
@@ -28,5 +28,5 @@ var groups = []usage.Group{
 	{Title: "Rights and certificates", Names: []string{"token-file", "audit-file", "cert", "key", "client-ca", "peer-cert",
 		"peer-key", "peer-ca",
 		"trust-network"}},
-	{Title: "What it tells", Names: []string{"log-format", "log-level", "version"}},
+	{Title: "Output", Names: []string{"log-format", "log-level", "version"}},
 }

@@ -42,7 +42,7 @@ type options struct {
 // patience is how long a member that has not begun waits for the others.
 const patience = 10 * time.Minute
 
-// several are the words of an option that may come again.
+// several are the words of a repeatable option.
 type several []string
 
 func (w *several) String() string { return strings.Join(*w, ",") }
@@ -80,44 +80,45 @@ func parse(words []string) (*options, error) {
 func (o *options) ofMember(flags *flag.FlagSet) {
 	flags.StringVar(&o.data, "data", "", "`DIR`: folder of this member")
 	flags.StringVar(&o.listen, "listen", "127.0.0.1:7421", "`HOST:PORT`: address for clients")
-	flags.StringVar(&o.listenMetrics, "listen-metrics", "", "`HOST:PORT`: address for health and metrics alone, in the clear")
-	flags.Var(&o.hosts, "host", "`NAME`: a further name by which clients call this member; may come again")
-	flags.Uint64Var(&o.id, "id", 1, "`N`: number of this member")
-	flags.StringVar(&o.members, "members", "", "`N=PEER/CLIENT,..`: the first members, alike on all of them")
-	flags.BoolVar(&o.isNew, "new", false, "the first members begin a new group")
+	flags.StringVar(&o.listenMetrics, "listen-metrics", "", "`HOST:PORT`: address for health and metrics alone, without TLS or authentication")
+	flags.Var(&o.hosts, "host", "`NAME`: further name of this member for clients; repeatable")
+	flags.Uint64Var(&o.id, "id", 1, "`N`: number of this member, 1 to 65535")
+	flags.StringVar(&o.members, "members", "", "`N=PEER/CLIENT,..`: the first members, the same list on each")
+	flags.BoolVar(&o.isNew, "new", false, "begin a new group of the first members; ignored by a folder that has begun")
 	flags.StringVar(&o.peer, "peer", "", "`HOST:PORT`: address for the other members")
-	flags.BoolVar(&o.join, "join", false, "this member was added to a group that runs")
-	flags.StringVar(&o.group, "group", "lrcmand", "`NAME`: members of another group are refused")
+	flags.BoolVar(&o.join, "join", false, "this member was added to a running group")
+	flags.StringVar(&o.group, "group", "lrcmand", "`NAME`: folders and members of a group of another name are refused")
 }
 
 // ofWork are those of its work: times, entries, bytes and lines.
 func (o *options) ofWork(flags *flag.FlagSet) {
-	flags.Uint64Var(&o.tick, "tick", 600, "`SECONDS`: time between two ticks by the leader; 0: never")
-	flags.Uint64Var(&o.compare, "compare", 10, "`SECONDS`: time between two books that the members compare; 0: none is")
+	flags.Uint64Var(&o.tick, "tick", 600, "`SECONDS`: how often the leader ticks each book with a live lease; 0: never")
+	flags.Uint64Var(&o.compare, "compare", 10, "`SECONDS`: how often the members compare one book; 0: never")
 	flags.DurationVar(&o.election, "election", time.Second, "`DURATION`: how long a leader may be silent")
-	flags.DurationVar(&o.timeout, "timeout", 10*time.Second, "`DURATION`: how long a request may take")
-	flags.Uint64Var(&o.snapshotEvery, "snapshot-every", 100000, "`N`: entries between snapshots")
-	flags.Uint64Var(&o.snapshotBytes, "snapshot-bytes", 64<<20, "`BYTES`: of entries between snapshots")
-	flags.Uint64Var(&o.trailing, "trailing", 5000, "`N`: entries that stay behind a snapshot")
-	flags.Uint64Var(&o.diskReserve, "disk-reserve", 256<<20, "`BYTES`: changes are refused where the disk has less room; 0: never")
-	flags.Uint64Var(&o.rate, "rate", 0, "`N`: requests a second from one address; 0: any number")
-	flags.StringVar(&o.logFormat, "log-format", "text", "`FORM`: lines on standard error are text or json")
-	flags.StringVar(&o.logLevel, "log-level", "info", "`LEVEL`: the least that is written: debug, info, warn or error")
-	flags.BoolVar(&o.version, "version", false, "prints the version of the program, and ends")
+	flags.DurationVar(&o.timeout, "timeout", 10*time.Second, "`DURATION`: how long a request may take, at least --election")
+	flags.Uint64Var(&o.snapshotEvery, "snapshot-every", 100000, "`N`: log entries between snapshots")
+	flags.Uint64Var(&o.snapshotBytes, "snapshot-bytes", 64<<20, "`BYTES`: bytes of log entries between snapshots, if these come first")
+	flags.Uint64Var(&o.trailing, "trailing", 5000, "`N`: entries kept from before a snapshot, 16 MiB together at most")
+	flags.Uint64Var(&o.diskReserve, "disk-reserve", 256<<20, "`BYTES`: changes are refused with less free space; 0: never")
+	flags.Uint64Var(&o.rate, "rate", 0, "`N`: requests a second from one address, and as many at once; 0: any number")
+	flags.StringVar(&o.logFormat, "log-format", "text", "`FORM`: lines on standard error: text, or json, an object each")
+	flags.StringVar(&o.logLevel, "log-level", "info", "`LEVEL`: lowest level written: debug (with Raft's lines), info, warn or error")
+	flags.BoolVar(&o.version, "version", false, "print versions, and exit")
 }
 
 // ofGuard are those that say who may ask it.
 func (o *options) ofGuard(flags *flag.FlagSet) {
-	flags.StringVar(&o.tokenFile, "token-file", "", "`FILE`: lines of ROLE TOKEN, or ROLE cert=NAME")
-	flags.StringVar(&o.auditFile, "audit-file", "", "`FILE`: what operators ask and who is refused; in the log by default")
+	flags.StringVar(&o.tokenFile, "token-file", "", "`FILE`: who may do what, lines of ROLE TOKEN or ROLE cert=NAME")
+	flags.StringVar(&o.auditFile, "audit-file", "", "`FILE`: audit of what operators ask and who is refused; in the log by default")
 	flags.StringVar(&o.cert, "cert", "", "`FILE`: certificate for clients")
 	flags.StringVar(&o.key, "key", "", "`FILE`: its key")
-	flags.StringVar(&o.clientCA, "client-ca", "", "`FILE`: who signs the certificates of clients")
+	flags.StringVar(&o.clientCA, "client-ca", "", "`FILE`: CA file that client certificates must chain to")
 	flags.StringVar(&o.peerCert, "peer-cert", "", "`FILE`: certificate for the other members")
 	flags.StringVar(&o.peerKey, "peer-key", "", "`FILE`: its key")
-	flags.StringVar(&o.peerCA, "peer-ca", "", "`FILE`: who signs the certificates of members")
-	flags.Var(&o.peerNames, "peer-name", "`NAME`: a name that a certificate of a member has; it may come again")
-	flags.BoolVar(&o.trustNetwork, "trust-network", false, "allows addresses beyond loopback without tokens or certificates")
+	flags.StringVar(&o.peerCA, "peer-ca", "", "`FILE`: CA file that certificates of members must chain to")
+	flags.Var(&o.peerNames, "peer-name", "`NAME`: common or alternative name that certificates of members have; repeatable")
+	flags.BoolVar(&o.trustNetwork, "trust-network", false,
+		"allow addresses beyond loopback without tokens or certificates, and tokens in the clear")
 }
 
 func (o *options) check() error {

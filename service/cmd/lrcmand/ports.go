@@ -147,7 +147,7 @@ func (o *options) allHosts(e engine.Engine) *httpapi.Hosts {
 	})
 }
 
-// hostNames are an option that may come again.
+// hostNames are a repeatable option.
 type hostNames []string
 
 func (n *hostNames) String() string { return strings.Join(*n, ",") }

@@ -48,12 +48,11 @@ func tokenOf(text string) string {
 	return ""
 }
 
-// sayUnknown tells of a request whose outcome is unknown how it can be asked again.
+// sayUnknown adds to an unknown outcome how to retry with the same key.
 func sayUnknown(err error) error {
 	var unknown *client.OutcomeUnknown
 	if errors.As(err, &unknown) && unknown.Key != "" {
-		return fmt.Errorf("%w; nobody knows whether it was made: ask again with --call-key %s --call-since %d", unknown.Err, unknown.Key,
-			unknown.Since)
+		return fmt.Errorf("%w; the call may have been made: retry with --call-key %s --call-since %d", unknown.Err, unknown.Key, unknown.Since)
 	}
 	return err
 }

@@ -55,18 +55,18 @@ const help = `usage: lrcmand ctl [OPTIONS] COMMAND
   status                        the member that answers, and each book in a line
   books                         the books
   members                       the members of the group
-  lead ID                       makes a member the leader
+  lead ID                       makes a member the leader, and prints the members once it is
   table BOOK WHAT               WHAT: status, stripes, nodes, leases, work or workers
-  call BOOK COMMAND..           one command, as: call p0 lease 17 3
+  call BOOK COMMAND..           makes one command, as call p0 lease 17 3, and prints the reply
   ok-to-stop BOOK NODE..        status 0: these may be stopped at once; 4: a stripe would be harmed.
                                 fault N.. and upgrade N.. name whole domains
-  drain BOOK NODE               drains a node and waits until it is empty
-  watch BOOK                    follows the book's log
+  drain BOOK NODE               drains a node, unless it is draining already, and waits until it is empty
+  watch BOOK                    follows the book's log, at another member where one breaks off
 
-Options stand before or behind the command:
+Options stand before or after the command:
 `
 
-// command is one of the words of ctl, with the least and the greatest number of words behind it; -1: any.
+// command is one of the words of ctl, with the least and the greatest number of words after it; -1: any.
 type command struct {
 	least, most int
 	run         func(*session, []string) error
@@ -159,18 +159,20 @@ func (o *options) flags() *flag.FlagSet {
 	}
 	flags := flag.NewFlagSet("lrcmand ctl", flag.ContinueOnError)
 	flags.SetOutput(io.Discard)
-	flags.StringVar(&o.server, "server", server, "`URL` of a member, or several with commas between; also LRCMAND_SERVER")
-	flags.StringVar(&o.tokenFile, "token-file", os.Getenv("LRCMAND_TOKEN_FILE"), "`FILE` with the token; also LRCMAND_TOKEN_FILE")
-	flags.StringVar(&o.ca, "ca", "", "`FILE` with the certificates of who signs those of members")
-	flags.StringVar(&o.cert, "cert", "", "`FILE` with a certificate to be shown")
+	flags.StringVar(&o.server, "server", server,
+		"`URL` of a member, or several with commas between, tried one after the other; also LRCMAND_SERVER")
+	flags.StringVar(&o.tokenFile, "token-file", os.Getenv("LRCMAND_TOKEN_FILE"),
+		"`FILE` with the token, a line of it alone or of ROLE TOKEN; also LRCMAND_TOKEN_FILE")
+	flags.StringVar(&o.ca, "ca", "", "CA `FILE` that certificates of members must chain to; by default those of the system")
+	flags.StringVar(&o.cert, "cert", "", "`FILE` with a client certificate")
 	flags.StringVar(&o.key, "key", "", "`FILE` with its key")
-	flags.StringVar(&o.output, "o", "text", "text or json")
+	flags.StringVar(&o.output, "o", "text", "`FORM`: text, in columns, or json, the answer of the service as it is")
 	flags.Uint64Var(&o.session, "session", 1, "`N` of the session of calls, 1 to 8")
 	flags.StringVar(&o.worker, "worker", "", "`NAME` of the worker who calls")
 	flags.StringVar(&o.callKey, "call-key", "", "`KEY` of the call; by default a random one")
-	flags.Uint64Var(&o.callSince, "call-since", 0, "`N` that was told with the key, if the call was asked for before")
-	flags.StringVar(&o.from, "from", "", "`N`: watch shows the entries behind this number; by default those to come")
-	flags.BoolVar(&o.now, "now", false, "tables have all that was told before; ok-to-stop always has")
+	flags.Uint64Var(&o.callSince, "call-since", 0, "`N` that was reported with the key, if the call was sent before")
+	flags.StringVar(&o.from, "from", "", "`N`: watch shows the entries after this number; by default those to come")
+	flags.BoolVar(&o.now, "now", false, "tables include everything acknowledged before; ok-to-stop always does")
 	flags.BoolVar(&o.noWait, "no-wait", false, "drain does not wait until the node is empty")
 	flags.DurationVar(&o.timeout, "timeout", 20*time.Second, "how long members are asked before it is given up")
 	return flags
@@ -207,7 +209,7 @@ func (o *options) parse(words []string, out io.Writer) ([]string, error) {
 
 func (s *session) isJSON() bool { return s.output == "json" }
 
-// show prints a body as it came, behind which an end of line stands.
+// show prints a body as it came, and an end of line after it.
 func (s *session) show(text []byte) error {
 	_, err := fmt.Fprintln(s.out, strings.TrimRight(string(text), "\n"))
 	return err

@@ -107,7 +107,7 @@ func (s *service) call(w http.ResponseWriter, r *http.Request) {
 	if s.broken > 0 {
 		s.broken--
 		w.WriteHeader(504)
-		io.WriteString(w, `{"status":504,"error":"nobody knows whether it was made","maybe":true}`+"\n")
+		io.WriteString(w, `{"status":504,"error":"the outcome is unknown","maybe":true}`+"\n")
 		return
 	}
 	io.WriteString(w, answer+"\n")
@@ -232,18 +232,18 @@ func TestACallIsMadeOnceHoweverOftenItIsAsked(t *testing.T) {
 	}
 }
 
-func TestAKeyIsToldWhereNobodyKnows(t *testing.T) {
+func TestAKeyIsReportedWithAnUnknownOutcome(t *testing.T) {
 	s, address := newService(t)
 	s.broken = 1000
 	status, _, err := ctl(t, "call", "p0", "tick", "--server", address, "--timeout", "700ms")
-	if status != 1 || !strings.Contains(err, "nobody knows whether it was made: ask again with --call-key "+fmt.Sprint(s.calls[0]["key"])) {
+	if status != 1 || !strings.Contains(err, "the call may have been made: retry with --call-key "+fmt.Sprint(s.calls[0]["key"])) {
 		t.Errorf("status %d, %s", status, err)
 	}
 	if since := fmt.Sprintf("--call-since %v", s.calls[0]["since"]); !strings.Contains(err, since) || since != "--call-since 89" {
 		t.Errorf("the error lacks %s: %s", since, err)
 	}
 	status, _, err = ctl(t, "call", "p0", "tick", "--server", "127.0.0.1:9", "--timeout", "100ms")
-	if status != 1 || strings.Contains(err, "nobody knows") || !strings.Contains(err, "http://127.0.0.1:9 does not answer") {
+	if status != 1 || strings.Contains(err, "may have been made") || !strings.Contains(err, "http://127.0.0.1:9 does not answer") {
 		t.Errorf("of one who does not run: status %d, %s", status, err)
 	}
 	status, _, err = ctl(t, "call", "p0", "tick", "--server", address, "--call-key", "mine", "--call-since", "70", "--timeout", "100ms")
@@ -288,7 +288,7 @@ func TestAMemberThatHangsIsPassedOver(t *testing.T) {
 		t.Errorf("status %d, %s, %s", status, out, err)
 	}
 	status, _, err := ctl(t, "call", "p0", "tick", "--server", hanging.URL, "--timeout", "1500ms")
-	if status != 1 || !strings.Contains(err, "nobody knows whether it was made") {
+	if status != 1 || !strings.Contains(err, "the call may have been made") {
 		t.Errorf("status %d, %s", status, err)
 	}
 }

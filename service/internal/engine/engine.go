@@ -68,7 +68,7 @@ type Status struct {
 
 var (
 	// ErrOutcomeUnknown says that an entry may or may not come to stand in the log.
-	ErrOutcomeUnknown = errors.New("nobody knows whether it was made")
+	ErrOutcomeUnknown = errors.New("the outcome is unknown")
 	// ErrNoLeader says that nothing was proposed, or asked.
 	ErrNoLeader = errors.New("there is no leader")
 	// ErrNotMoved says that the leadership was not moved in time.

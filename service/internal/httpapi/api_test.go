@@ -266,7 +266,7 @@ func TestBadRequestsAreRefusedByName(t *testing.T) {
 		{"PUT", "/members/2", `{"peer":"h:1","client":"h:2","id":2}`, 400, `there is no field "id"`},
 		{"PUT", "/members/2", `{"peer":"h:1","client":"h:2","learner":1}`, 400, `the field "learner" has to be a bool and not a number`},
 		{"PUT", "/members/9", `{"peer":"h:1","client":"h:2"}`, 409, "there is a member 9 already"},
-		{"DELETE", "/members/2", "", 504, "nobody knows"},
+		{"DELETE", "/members/2", "", 504, "the outcome is unknown"},
 		{"PUT", "/members/8", `{"peer":"h:1","client":"h:2"}`, 409, "there is a member 8 already"},
 		{"DELETE", "/members/8", "", 409, "the group would stand still"},
 		{"DELETE", "/members/8?force=0", "", 409, "the group would stand still"},
@@ -526,8 +526,8 @@ func TestNobodyKnowsIsToldOrTriedAgain(t *testing.T) {
 	s.expect("POST", "/books/p0/call", `{"command":"tick","key":"a"}`, 200, `{"n":1,"opens":1024,"reply":"ticked 1 0","kind":"ticked","clock":1,"ended":0,"again":true}`)
 	lost(2, false, engine.ErrOutcomeUnknown)
 	s.expect("POST", "/books/p0/call", `{"command":"tick","key":"b"}`, 200, `{"n":2,"opens":1024,"reply":"ticked 2 0","kind":"ticked","clock":2,"ended":0}`)
-	lost(1, true, engine.ErrOutcomeUnknown) // without a key its caller is told that nobody knows
-	s.expect("POST", "/books/p0/call", `{"command":"tick"}`, 504, `{"status":504,"code":"outcome_unknown","error":"nobody knows whether it was made","maybe":true}`)
+	lost(1, true, engine.ErrOutcomeUnknown) // without a key its caller gets 504
+	s.expect("POST", "/books/p0/call", `{"command":"tick"}`, 504, `{"status":504,"code":"outcome_unknown","error":"the outcome is unknown","maybe":true}`)
 	s.expect("POST", "/books/p0/call", `{"command":"tick"}`, 200, `{"n":4,"opens":1024,"reply":"ticked 4 0","kind":"ticked","clock":4,"ended":0}`)
 	lost(2, false, engine.ErrNoLeader) // nothing was made: it is tried again in any case
 	s.expect("POST", "/books/p0/call", `{"command":"tick"}`, 200, `{"n":5,"opens":1024,"reply":"ticked 5 0","kind":"ticked","clock":5,"ended":0}`)
@@ -549,7 +549,7 @@ func TestNobodyKnowsIsToldOrTriedAgain(t *testing.T) {
 			return false, engine.ErrNoLeader
 		}
 	}) // the first proposal was made, so to find no leader later on does not mean that nothing was changed
-	s.refused("POST", "/books/p0/call", `{"command":"tick","key":"c"}`, 504, "nobody knows whether it was made")
+	s.refused("POST", "/books/p0/call", `{"command":"tick","key":"c"}`, 504, "the outcome is unknown")
 }
 
 func TestABookIsRemoved(t *testing.T) {

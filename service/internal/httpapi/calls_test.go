@@ -73,7 +73,7 @@ func TestNobodyKnowsIsToldWithSince(t *testing.T) {
 	s.call("tick")
 	s.wrong(1<<30, false, engine.ErrOutcomeUnknown)
 	_, text := s.ask("POST", "/books/p0/call", `{"command":"tick","key":"a"}`)
-	if text != `{"status":504,"code":"outcome_unknown","error":"nobody knows whether it was made","maybe":true,"since":2}`+"\n" {
+	if text != `{"status":504,"code":"outcome_unknown","error":"the outcome is unknown","maybe":true,"since":2}`+"\n" {
 		t.Error(text)
 	}
 	_, fail := s.failed("POST", "/books/p0/call", `{"command":"tick","key":"b","since":1}`)

@@ -16,7 +16,7 @@ var (
 	ErrLate = errors.New("it was not proposed in time")
 )
 
-// An Unknown says that nobody knows whether an item was made. One with a key may be asked for again, with the same Since: it is
+// An Unknown says that the outcome of an item is unknown. One with a key may be asked for again, with the same Since: it is
 // then made once, or nobody can tell any more.
 type Unknown struct {
 	HasKey bool
@@ -218,7 +218,7 @@ func (q *queue) putBack(items []*pending) {
 	}
 }
 
-// refuse tells all who wait that nothing was made, but for those of whom nobody knows.
+// refuse tells all who wait that nothing was made, except where the outcome is unknown.
 func (q *queue) refuse(err error) {
 	q.mu.Lock()
 	defer q.mu.Unlock()

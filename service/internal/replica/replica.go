@@ -74,7 +74,7 @@ func (r *Replica) Run(ctx context.Context) {
 func (r *Replica) Waiting() int { return r.queue.count() }
 
 // Do brings an item into the log and returns its answer. An item with a key is then first asked for now: it gets its Since. The
-// error is an *Unknown if nobody knows whether it was made. After any other one, that of MayChange too, nothing was made.
+// error is an *Unknown if the outcome is unknown. After any other one, that of MayChange too, nothing was made.
 func (r *Replica) Do(ctx context.Context, item *state.Item) (state.Answer, error) {
 	if item.Key != "" {
 		item.Since = r.cfg.Engine.AppliedIndex()

@@ -158,8 +158,8 @@ func (n *Node) freeze(index uint64, conf raftpb.ConfState, head head) {
 
 var errReplaced = errors.New("a snapshot of the leader came meanwhile")
 
-// failLost tells all who wait that nobody knows: what was passed on to a leader that is gone may be lost without a word. What is
-// handed over already is told before.
+// failLost tells all who wait that the outcome is unknown: what was passed on to a leader that is gone may be lost without a word.
+// What is handed over already is told before.
 func (n *Node) failLost() {
 	n.mu.Lock()
 	ids := make([]uint64, 0, len(n.waiting))

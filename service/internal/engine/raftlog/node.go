@@ -255,7 +255,7 @@ func (n *Node) Propose(ctx context.Context, payload []byte) (interface{}, error)
 	}
 }
 
-// notTaken tells why raft did not take a proposal, or that nobody knows whether it did.
+// notTaken tells why raft did not take a proposal, or that this is unknown.
 func (n *Node) notTaken(err error) error {
 	if err != raft.ErrProposalDropped {
 		return engine.ErrOutcomeUnknown
@@ -303,7 +303,7 @@ func (n *Node) tell(id uint64, told interface{}, err error) {
 	}
 }
 
-// failAll tells all who wait that nobody knows. What was passed on to a leader that is gone may be lost without a word.
+// failAll tells all who wait that the outcome is unknown. What was passed on to a leader that is gone may be lost without a word.
 func (n *Node) failAll() {
 	n.mu.Lock()
 	defer n.mu.Unlock()
