@@ -1,1 +1,3 @@
+pub mod ResultLemmas
+pub mod OpeningLemmas
 pub mod TextLemmas

@@ -9,4 +9,4 @@ mod opening;
 
 pub use error::OpenError;
 pub use image::image_text;
-pub use opening::begin;
+pub use opening::{begin, begin_over};

@@ -4,8 +4,8 @@ ghost use Rattle.lrc_images.specs.Causes.{first_cause};
 ghost use Rattle.lrc_images.specs.Cuts.{row_count};
 ghost use Rattle.lrc_restore.specs.Refused.{IsRefusedFor};
 ghost use Rattle.lrc_image_text.specs.Texts.{row_line};
-ghost use Rattle.lrc_openings.specs.Begun.{IsBegun};
-ghost use Rattle.lrc_openings.specs.Unopened.{IsUnopened};
+ghost use Rattle.lrc_openings.specs.Begun.{IsBegun, IsBegunOver};
+ghost use Rattle.lrc_openings.specs.Unopened.{IsUnopened, IsUnbegun};
 
 use crate::OpenError;
 use lrc_book::{BeginError, Book, Cause, Image};
@@ -21,6 +21,18 @@ pub fn begin(alloc: Global, nodes: &[u8], text: &[u8]) -> Result<Box<Book>, Open
 {
     let topology = Topology::read(alloc, nodes)?;
     let image = read_image(alloc, text)?;
+    begin_over(alloc, topology, image)
+}
+
+/// Begins a book over nodes in an image that was read.
+///
+/// # Errors
+///
+/// `Line` and `OutOfMemory`.
+pub fn begin_over(alloc: Global, topology: Topology, image: Image) -> Result<Box<Book>, OpenError>
+    ensures begun { IfOk result (λ b. IsBegunOver topology image b.value) }
+    ensures refused { IfErr result (IsUnbegun topology image) }
+{
     let upgrading = upgrading_in(&image);
     match begin_boxed(alloc, topology, image) {
         Ok(book) => Ok(book),
@@ -33,7 +45,8 @@ pub fn begin(alloc: Global, nodes: &[u8], text: &[u8]) -> Result<Box<Book>, Open
 
 /// Begins a book in an image, in a box.
 fn begin_boxed(alloc: Global, topology: Topology, image: Image) -> Result<Box<Book>, BeginError>
-    ensures value { IfOk result (λ b. (b.value.nodes ≡ topology) × (b.value.limit ≡ 1000000) × (b.value.history ≡ []) × (b.value.base ≡ image_world image) × (b.value.before ≡ image.before)) }
+    ensures value { IfOk result (λ b. (b.value.nodes ≡ topology) × (b.value.limit ≡ 1000000)
+        × (b.value.history ≡ []) × (b.value.base ≡ image_world image) × (b.value.before ≡ image.before)) }
     ensures lawful { IsOk result → first_cause topology image ≡ None }
     ensures refused { IfErr result (IsRefusedFor (first_cause topology image)) }
 {

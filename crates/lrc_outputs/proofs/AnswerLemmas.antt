@@ -1,5 +1,5 @@
 -- Each bundle has an output, and only one.
-use Rattle.std.proofs.Common.{arith, ◌≡◌, ℕ, ◌≤◌, inl, inr, List, length, Option, Some, None, Result, Ok, Err, refl, sym, ap, subst, ◌∙◌}
+use Rattle.std.proofs.Common.{arith, ◌≡◌, ℕ, ◌≤◌, ◌⊎◌, inl, inr, List, length, Option, Some, None, Result, Ok, Err, refl, sym, ap, subst, ◌∙◌}
 use Rattle.lrc_topology.specs.declared.NodeInfo.{NodeInfo}
 use Rattle.lrc_topology.specs.declared.error.TopologyError.{TopologyError}
 use Rattle.lrc_topology.proofs.AnswerLemmas.{one_topology, topology_or_refusal, one_refusal}
@@ -11,8 +11,15 @@ use Rattle.lrc_script.specs.Bundles.{Script, scripts_of, topology_of}
 use Rattle.lrc_outputs.specs.declared.status.Status.{Status}
 use Rattle.lrc_outputs.specs.declared.status.Status.TheVariants as ended
 use Rattle.lrc_outputs.specs.Limits.{script_limit}
-use Rattle.lrc_refusals.specs.Refusals.{topology_line}
-use Rattle.lrc_outputs.specs.Outputs.{early_refusal_over, Reads, first_bad_of, Ending, Judging, IsAnsweredOver, IsAnsweredAfter, IsAnsweredUnless, IsAnsweredIn, run_judging, AreCommandsOf, IsPlayed, ArePrinted, IsOutput}
+use Rattle.lrc_refusals.specs.Refusals.{refusal_line, topology_line}
+use Rattle.lrc_streams.specs.declared.streams.RunFault.{RunFault}
+use Rattle.lrc_streams.specs.declared.streams.RunFault.TheVariants as fault
+use Rattle.lrc_outputs.specs.declared.error.OutputError.{OutputError}
+use Rattle.lrc_outputs.specs.declared.error.OutputError.TheVariants.{Refused, Fault}
+use Rattle.lrc_outputs.specs.OutputErrors.{IsStopped, IsRefusedWith}
+use Rattle.lrc_outputs.specs.RefusedInputs.{bad_line_text, refusal_status}
+use Rattle.lrc_outputs.specs.Judged.{NoEnding, IsRefusalIn}
+use Rattle.lrc_outputs.specs.Outputs.{early_refusal_over, Reads, first_bad_of, Ending, Judging, Answer, IsAnswered, IsAnsweredOver, IsAnsweredAfter, IsAnsweredUnless, IsAnsweredIn, run_judging, AreCommandsOf, IsPlayed, ArePrinted, IsOutput}
 use Rattle.lrc_outputs.proofs.CommandLemmas.{as_many_lists, same_lists, some_lists}
 use Rattle.lrc_outputs.proofs.HistoryLemmas.{same_play}
 use Rattle.lrc_outputs.proofs.TurnLemmas.{some_play}
@@ -128,3 +135,13 @@ module _ (most : ℕ) (bad_text : BadLine → List ℕ) (a b : Ending) (text : L
 
   pub ends_other : (bundle : List ℕ) → IsAnsweredIn first bundle text status → IsAnsweredIn second bundle text status
   ends_other bundle h = unless_other (early_refusal_over most bundle) bundle h
+
+-- a refusal is the answer, whatever is written where all checks pass
+pub refused_alone : (answer : Answer) (bundle text : List ℕ) (status : Status) → IsRefusalIn script_limit bad_line_text bundle text status → IsAnswered answer bundle text status
+refused_alone answer bundle text status h = ends_other script_limit bad_line_text NoEnding (run_judging answer).ending text status (λ nodes scripts never. absurd never) bundle h
+
+-- so it is that of a run
+pub refused_run : (bundle : List ℕ) (B : RunFault → Type 0) (e : OutputError) → IsRefusedWith (IsRefusalIn script_limit bad_line_text bundle) e
+    → IsStopped (IsOutput bundle) (λ f. (f ≡ fault.OutOfMemory) ⊎ B f) e
+refused_run bundle B (Refused r) h = refused_alone ArePrinted bundle (refusal_line r) (refusal_status r) h
+refused_run bundle B (Fault f) h = inl h

@@ -13,16 +13,20 @@ use Rattle.lrc_script.specs.Bundles.{Script, scripts_of}
 use Rattle.lrc_warnings.specs.Warnings.{warnings}
 use Rattle.lrc_outputs.specs.declared.status.Status.{Status}
 use Rattle.lrc_outputs.specs.declared.status.Status.TheVariants as ended
+use Rattle.lrc_outputs.specs.declared.error.OutputError.{OutputError}
+use Rattle.lrc_outputs.specs.OutputErrors.{IsRefusedWith, IsCheckRefusal}
 use Rattle.lrc_outputs.specs.Limits.{script_limit, sequel_limit}
 use Rattle.lrc_outputs.specs.RefusedInputs.{bad_line_text}
-use Rattle.lrc_outputs.specs.Outputs.{early_refusal_over, first_bad_of, AreCommandsOf, Judging, IsAnsweredOver, IsAnsweredAfter, IsAnsweredUnless, IsAnsweredIn, run_judging, IsAnswered}
+use Rattle.lrc_outputs.specs.Outputs.{early_refusal_over, first_bad_of, AreCommandsOf, Judging, IsAnsweredOver, IsAnsweredAfter, IsAnsweredUnless, IsAnsweredIn, IsAnswered}
 use Rattle.lrc_outputs.specs.Judged.{lists_of, NoEnding, IsRefusalIn, IsAccepted}
 use Rattle.lrc_outputs.specs.Sequels.{has_image, bytes_to_end, image_size, image_part, bundle_part, lines_before, ReadsImage, Start, start_in, IsBegunUnless, sequel_judging, IsToldAfter, IsToldUnless, IsTold}
-use Rattle.lrc_outputs.specs.Begun.{NotGoing, IsGoodSequel}
-use Rattle.lrc_outputs.specs.Checks.{command_count, counts_line, counted_line, AreCounted, counting, IsCheckIn, IsCheck, most_scripts, Passes, end_warning, IsWarned}
+use Rattle.lrc_outputs.specs.Starts.{NotGoing, IsGoodSequel}
+use Rattle.lrc_outputs.specs.Checks.{command_count, counts_line, counted_line, IsCountedLine, counting, IsCheckIn, IsCheck, most_scripts, PassesAllChecks, end_warning, IsWarned}
 use Rattle.lrc_outputs.proofs.CommandLemmas.{as_many_lists}
 use Rattle.lrc_outputs.proofs.JudgedLemmas.{lists_many, short_bundle}
-use Rattle.lrc_outputs.proofs.AnswerLemmas.{ends_other}
+use Rattle.lrc_outputs.proofs.ErrorLemmas.{refused_as}
+use Rattle.lrc_outputs.proofs.AnswerLemmas.{refused_alone}
+use Rattle.lrc_outputs.proofs.SequelLemmas.{refused_going}
 
 -- a script has as many commands as lines that are not passed over
 pub counted_commands : (s : Script) (commands : List Command) → IsScript s.lines commands → length commands ≡ command_count s
@@ -48,15 +52,11 @@ all_counted {Z = Z} nodes scripts lists are =
 -- ---- what is written
 
 -- the check of an input is that of a bundle that stands alone, or of a sequel
-pub check_alone : (bundle text : List ℕ) (status : Status) → has_image bundle ≡ false → IsAnswered AreCounted bundle text status → IsCheck bundle text status
+pub check_alone : (bundle text : List ℕ) (status : Status) → has_image bundle ≡ false → IsAnswered IsCountedLine bundle text status → IsCheck bundle text status
 check_alone bundle text status none h = subst (λ (b : Bool). IsCheckIn b bundle text status) (sym none) h
 
 pub check_behind : (sequel text : List ℕ) (status : Status) → has_image sequel ≡ true → IsTold counting sequel text status → IsCheck sequel text status
 check_behind sequel text status some h = subst (λ (b : Bool). IsCheckIn b sequel text status) (sym some) h
-
--- a refusal is the answer
-pub refused_alone : (bundle text : List ℕ) (status : Status) → IsRefusalIn script_limit bad_line_text bundle text status → IsAnswered AreCounted bundle text status
-refused_alone bundle text status h = ends_other script_limit bad_line_text NoEnding (run_judging AreCounted).ending text status (λ nodes scripts never. absurd never) bundle h
 
 -- ---- what is warned of
 
@@ -100,14 +100,25 @@ warned_of_none input ended.Refused other = refl
 warned_of_none input ended.Unsafe other = refl
 
 -- a refused bundle is warned of nothing
-pub refused_unwarned : (bundle text : List ℕ) (status : Status) → IsRefusalIn script_limit bad_line_text bundle text status → IsWarned bundle [] status
+refused_unwarned : (bundle text : List ℕ) (status : Status) → IsRefusalIn script_limit bad_line_text bundle text status → IsWarned bundle [] status
 refused_unwarned bundle text status h =
     warned_of_none bundle status
     (answer_refused (record { most = script_limit; bad_text = bad_line_text; ending = NoEnding }) (λ nodes scripts t s never. absurd never) bundle text status h)
 
 -- nor is a refused sequel
-pub refused_unwarned_behind : (sequel text : List ℕ) (status : Status) → IsTold NotGoing sequel text status → IsWarned sequel [] status
+refused_unwarned_behind : (sequel text : List ℕ) (status : Status) → IsTold NotGoing sequel text status → IsWarned sequel [] status
 refused_unwarned_behind sequel text status h = warned_of_none sequel status (told_refused (nat_lt sequel_limit (length sequel)) sequel text status h)
+
+-- a check of what is refused writes the line for it, and warns of nothing
+pub bundle_check_refused : (bundle : List ℕ) → has_image bundle ≡ false → (e : OutputError) → IsRefusedWith (IsRefusalIn script_limit bad_line_text bundle) e → IsRefusedWith (IsCheckRefusal bundle) e
+bundle_check_refused bundle none e h =
+    refused_as _ (IsCheckRefusal bundle)
+    (λ text status refused. (check_alone bundle text status none (refused_alone IsCountedLine bundle text status refused), refused_unwarned bundle text status refused)) e h
+
+pub sequel_check_refused : (sequel : List ℕ) → has_image sequel ≡ true → (e : OutputError) → IsRefusedWith (IsTold NotGoing sequel) e → IsRefusedWith (IsCheckRefusal sequel) e
+sequel_check_refused sequel some e h =
+    refused_as _ (IsCheckRefusal sequel)
+    (λ text status refused. (check_behind sequel text status some (refused_going counting sequel text status refused), refused_unwarned_behind sequel text status refused)) e h
 
 -- an input that passes all checks is warned of what its nodes lack, and of its end
 module _ {Z : Type 0} (input text : List ℕ) (status : Status) (nodes : List NodeInfo) (scripts : List (Vec Command Z)) where
@@ -115,7 +126,7 @@ module _ {Z : Type 0} (input text : List ℕ) (status : Status) (nodes : List No
       → IsAccepted most (bundle_part input) nodes scripts → (start_in image).cause_over nodes ≡ None → text ≡ warnings nodes ++ end_warning (length scripts) (bundle_part input) → status ≡ ended.Done
       → IsWarned input text status
   passed_warned most most_is image short image_read good rows is done =
-      let passes : Passes input nodes = record {
+      let passes : PassesAllChecks input nodes = record {
         short = short;
         image = image;
         image_read = image_read;
@@ -137,4 +148,4 @@ module _ {Z : Type 0} (input text : List ℕ) (status : Status) (nodes : List No
 pub begun_warned : (sequel text : List ℕ) (status : Status) (b : BookView) (scripts : List (Vec Command Global)) → has_image sequel ≡ true → IsGoodSequel sequel b scripts
     → text ≡ warnings b.nodes ++ end_warning (length scripts) (bundle_part sequel) → status ≡ ended.Done → IsWarned sequel text status
 begun_warned sequel text status b scripts some good is done =
-    passed_warned sequel text status b.nodes scripts 1 (sym (ap most_scripts some)) good.image good.short good.read good.good.accepted good.good.rows is done
+    passed_warned sequel text status b.nodes scripts 1 (sym (ap most_scripts some)) good.image good.short good.read good.accepted good.begun.rows is done

@@ -1,14 +1,18 @@
--- The result of the checks of a bundle, from its parts, and its output then.
-use Rattle.std.proofs.Common.{◌⊎◌, inl, inr, Bool, true, false, if◌then◌else◌, nat_lt, ◌≡◌, ℕ, suc, ◌+◌, ◌<◌, ◌≤◌, All, List, [], ◌∷◌, ◌++◌, length, get_or, take, drop, sum_by, Option, Some, None, option_map, Result, Ok, Err, IfOk, Vec, Global, refl, sym, ap, subst, ◌∙◌, arith}
+-- What the checks of a bundle find, from its parts, and its output then.
+use Rattle.std.proofs.Common.{◌⊎◌, inl, inr, Bool, true, false, if◌then◌else◌, nat_lt, ◌≡◌, ◌≢◌, ℕ, suc, ◌+◌, ◌<◌, ◌≤◌, All, List, [], ◌∷◌, ◌++◌, length, get_or, take, drop, sum_by, codes, Option, Some, None, option_map, Ok, Err, Vec, Global, refl, sym, ap, subst, ◌∙◌, arith}
 use borrow.Author.Tests.{ltb-false}
 use Rattle.std.specs.List.{AllZip}
-use Rattle.std.proofs.lemmas.Bool.{le-ltb}
+use Rattle.std.proofs.lemmas.Bool.{le-ltb, lt-ltb}
 use Rattle.std.proofs.lemmas.List.Elements.{All-nil, All-cons}
 use Rattle.std.proofs.lemmas.List.Sums.{sum_by-cons}
 use Rattle.std.proofs.lemmas.List.{take_more, drop_more, take-append-drop, length-map}
 use Rattle.lrc_topology.specs.declared.NodeInfo.{NodeInfo}
-use Rattle.lrc_topology.specs.Documents.{IsTopologyOf}
+use Rattle.lrc_topology.specs.Documents.{IsTopologyOf, IsRefusedBy}
+use Rattle.lrc_topology.specs.declared.error.TopologyError.{TopologyError}
+use Rattle.lrc_topology.specs.declared.error.TopologyError.TheVariants as topology
 use Rattle.lrc_rules.specs.declared.command.Command.{Command}
+use Rattle.lrc_script.specs.declared.bundle.BundleError.{BundleError}
+use Rattle.lrc_script.specs.declared.bundle.BundleError.TheVariants as bundle_error
 use Rattle.lrc_script.specs.declared.bundle.ScriptText.{ScriptText}
 use Rattle.lrc_script.specs.declared.script.Cause.{Cause}
 use Rattle.lrc_script.specs.declared.script.ScriptError.{ScriptError}
@@ -20,21 +24,15 @@ use Rattle.lrc_script.proofs.JoinLemmas.{bundle_texts}
 use Rattle.lrc_script.proofs.SizeLemmas.{few_in_bundle}
 use Rattle.lrc_outputs.specs.declared.status.Status.{Status}
 use Rattle.lrc_outputs.specs.declared.status.Status.TheVariants as ended
+use Rattle.lrc_refusals.specs.declared.refusal.InputRefusal.TheVariants as refusal
+use Rattle.lrc_refusals.specs.Refusals.{refusal_line, topology_line}
 use Rattle.lrc_outputs.specs.Limits.{bundle_limit, script_limit}
 use Rattle.lrc_outputs.specs.RefusedInputs.{bad_line_text, bad_line_text_behind}
-use Rattle.lrc_outputs.specs.declared.judging.Judged.{Judged}
+use Rattle.lrc_outputs.specs.declared.error.OutputError.{OutputError}
+use Rattle.lrc_outputs.specs.OutputErrors.{IsRefusedWith, of_bundle, of_topology, of_script}
 use Rattle.lrc_outputs.specs.Outputs.{early_refusal_over, first_bad_of, AreCommandsOf, Judging, Answer, IsAnsweredUnless, IsAnsweredOver, IsAnsweredIn, run_judging, IsAnswered, RunsSeveral}
 use Rattle.lrc_outputs.proofs.CommandLemmas.{as_many_lists}
-use Rattle.lrc_outputs.specs.Judged.{lists_of, first_bad_in, shifted, AreParsed, NoEnding, IsRefusalIn, IsAccepted, IsJudgedIn, IsJudgedBehind, IsJudged}
-
--- two facts of a value that there is
-pub IfOk-both : {X E : Type 0} (r : Result X E) (P Q R : X → Type 0) → ((x : X) → P x → Q x → R x) → IfOk r P → IfOk r Q → IfOk r R
-IfOk-both (Ok x) P Q R f p q = f x p q
-IfOk-both (Err e) P Q R f p q = tt
-
-pub IfOk-map : {X E : Type 0} (r : Result X E) (P Q : X → Type 0) → ((x : X) → P x → Q x) → IfOk r P → IfOk r Q
-IfOk-map (Ok x) P Q f p = f x p
-IfOk-map (Err e) P Q f p = tt
+use Rattle.lrc_outputs.specs.Judged.{lists_of, first_bad_in, shifted, AreParsed, NoEnding, IsRefusalIn, IsAccepted}
 
 -- ---- one text more
 
@@ -166,16 +164,49 @@ line_in None = 0
 line_in (Some bad) = bad.line
 
 -- the text of a bad line that is counted behind others
-bad_behind : (passed line line' : ℕ) (cause cause' : Cause) (found : Option BadLine) (nodes : List NodeInfo) (scripts : List Script) (most : ℕ) (text : List ℕ) (status : Status)
-    → shifted passed found ≡ Some (record { line = line; cause = cause }) → line' ≡ line → cause' ≡ cause → text ≡ bad_line_text (record { line = line'; cause = cause' }) → status ≡ ended.BadLine
-    → IsAnsweredOver (record { most = most; bad_text = bad_line_text_behind passed; ending = NoEnding }) nodes scripts found text status
-bad_behind passed line line' cause cause' None nodes scripts most text status is l c told end = absurd (cc)
-bad_behind passed line line' cause cause' (Some bad) nodes scripts most text status is l c told end =
+bad_behind : (passed line : ℕ) (cause : Cause) (found : Option BadLine) (nodes : List NodeInfo) (scripts : List Script) (most : ℕ) → shifted passed found ≡ Some (record { line = line; cause = cause })
+    → IsAnsweredOver (record { most = most; bad_text = bad_line_text_behind passed; ending = NoEnding }) nodes scripts found (bad_line_text (record { line = line; cause = cause })) ended.BadLine
+bad_behind passed line cause None nodes scripts most is = absurd (cc)
+bad_behind passed line cause (Some bad) nodes scripts most is =
     let number : passed + bad.line ≡ line = ap line_in is in
     let why : Some bad.cause ≡ Some cause = ap (option_map (λ (b : BadLine). b.cause)) is in
     let cause_is : bad.cause ≡ cause = cc in
-    let same = ap (λ n. bad_line_text (record { line = n; cause = cause' })) (l ∙ sym number) ∙ ap (λ (x : Cause). bad_line_text (record { line = passed + bad.line; cause = x })) (c ∙ sym cause_is) in
-    (told ∙ same, end)
+    let same = ap (λ n. bad_line_text (record { line = n; cause = cause })) (sym number) ∙ ap (λ (x : Cause). bad_line_text (record { line = passed + bad.line; cause = x })) (sym cause_is) in
+    (same, refl)
+
+-- ---- refusals
+
+module _ (most : ℕ) (bad_text : BadLine → List ℕ) (bundle : List ℕ) where
+  pub long_refused : bundle_limit < length bundle → IsRefusalIn most bad_text bundle (refusal_line refusal.TooLong) ended.Refused
+  long_refused long =
+      let way : Judging = record { most = most; bad_text = bad_text; ending = NoEnding } in
+      let early : early_refusal_over most bundle ≡ Some (codes "bundle 1\n") = rw (lt-ltb bundle_limit (length bundle) long) refl in
+      subst (λ (o : Option (List ℕ)). IsAnsweredUnless way o bundle (codes "bundle 1\n") ended.Refused) (sym early) (refl, refl)
+
+  module _ (short : length bundle ≤ bundle_limit) where
+    pub many_refused : (e : BundleError) → (e ≡ bundle_error.TooManyScripts → most < length (scripts_of bundle)) → IsRefusedWith (IsRefusalIn most bad_text bundle) (of_bundle e)
+    many_refused bundle_error.TooManyScripts many =
+        let way : Judging = record { most = most; bad_text = bad_text; ending = NoEnding } in
+        let early : early_refusal_over most bundle ≡ Some (codes "bundle 2\n") = rw (le-ltb bundle_limit (length bundle) short, lt-ltb most (length (scripts_of bundle)) (many refl)) refl in
+        subst (λ (o : Option (List ℕ)). IsAnsweredUnless way o bundle (codes "bundle 2\n") ended.Refused) (sym early) (refl, refl)
+    many_refused bundle_error.OutOfMemory many = refl
+
+    module _ (few : length (scripts_of bundle) ≤ most) where
+      topology_line_refused : (e : TopologyError) → e ≢ topology.OutOfMemory → IsRefusedBy (topology_of bundle) e → IsRefusalIn most bad_text bundle (topology_line e) ended.Refused
+      topology_line_refused e other why =
+          let way : Judging = record { most = most; bad_text = bad_text; ending = NoEnding } in
+          subst (λ (o : Option (List ℕ)). IsAnsweredUnless way o bundle (topology_line e) ended.Refused) (sym (not_refused most bundle short few)) (Err e, (other, why), (refl, refl))
+
+      pub topology_refused : (e : TopologyError) → IsRefusedBy (topology_of bundle) e → IsRefusedWith (IsRefusalIn most bad_text bundle) (of_topology e)
+      topology_refused topology.Syntax why = topology_line_refused topology.Syntax (λ is. absurd (cc)) why
+      topology_refused topology.NoNodes why = topology_line_refused topology.NoNodes (λ is. absurd (cc)) why
+      topology_refused (topology.BadField at) why = topology_line_refused (topology.BadField at) (λ is. absurd (cc)) why
+      topology_refused (topology.OutOfRange at) why = topology_line_refused (topology.OutOfRange at) (λ is. absurd (cc)) why
+      topology_refused (topology.DoubleNode node) why = topology_line_refused (topology.DoubleNode node) (λ is. absurd (cc)) why
+      topology_refused topology.TooMany why = topology_line_refused topology.TooMany (λ is. absurd (cc)) why
+      topology_refused topology.OutOfMemory why = refl
+
+-- ---- bundles that can be read
 
 module _ (most : ℕ) (bundle : List ℕ) (nodes : List NodeInfo) (texts : List ScriptText) (short : length bundle ≤ bundle_limit) (low : most ≤ script_limit)
     (few : length (scripts_of bundle) ≤ most)
@@ -194,14 +225,13 @@ module _ (most : ℕ) (bundle : List ℕ) (nodes : List NodeInfo) (texts : List 
         few = record { scripts_few = many; each_few = each_few scripts all; commands_few = all };
       }
 
-  pub judged_bad : (passed line line' : ℕ) (cause cause' : Cause) (text : List ℕ) (status : Status) → shifted passed (first_bad_in texts) ≡ Some (record { line = line; cause = cause })
-      → line' ≡ line → cause' ≡ cause → text ≡ bad_line_text (record { line = line'; cause = cause' }) → status ≡ ended.BadLine
-      → IsRefusalIn most (bad_line_text_behind passed) bundle text status
-  judged_bad passed line line' cause cause' text status found l c told end =
+  pub line_refused : (passed : ℕ) (e : ScriptError) → IsFirstBad (shifted passed (first_bad_in texts)) e → IsRefusedWith (IsRefusalIn most (bad_line_text_behind passed) bundle) (of_script e)
+  line_refused passed (Bad line cause) found =
       let way : Judging = record { most = most; bad_text = bad_line_text_behind passed; ending = NoEnding } in
       let same = ap (shifted passed) (texts_bad (scripts_of bundle) texts (bundle_texts bundle) are) in
-      let over = bad_behind passed line line' cause cause' (first_bad_of (scripts_of bundle)) nodes (scripts_of bundle) most text status (same ∙ found) l c told end in
-      subst (λ (o : Option (List ℕ)). IsAnsweredUnless way o bundle text status) (sym (not_refused most bundle short few)) (Ok nodes, read, over)
+      let over = bad_behind passed line cause (first_bad_of (scripts_of bundle)) nodes (scripts_of bundle) most (same ∙ found) in
+      subst (λ (o : Option (List ℕ)). IsAnsweredUnless way o bundle (bad_line_text (record { line = line; cause = cause })) ended.BadLine) (sym (not_refused most bundle short few)) (Ok nodes, read, over)
+  line_refused passed OutOfMemory found = refl
 
 -- ---- outputs
 
@@ -221,11 +251,11 @@ pub good_to_any : (answer : Answer) (bundle text : List ℕ) (status : Status) (
     → answer nodes (scripts_of bundle) text → status ≡ ended.Done → IsAnswered answer bundle text status
 good_to_any answer bundle text status nodes scripts good h end = good_to_end (run_judging answer) bundle text status nodes scripts good (h, end)
 
--- a bundle that stands behind no line stands alone
-pub judged_alone : (bundle : List ℕ) (judged : Judged) → IsJudgedBehind script_limit 0 bundle judged → IsJudged bundle judged
-judged_alone bundle judged h =
+-- a refusal of a bundle behind no line is that of one that stands alone
+pub refused_behind_none : (bundle : List ℕ) (e : OutputError) → IsRefusedWith (IsRefusalIn script_limit (bad_line_text_behind 0) bundle) e → IsRefusedWith (IsRefusalIn script_limit bad_line_text bundle) e
+refused_behind_none bundle e h =
     let same : (bad : BadLine) → bad_line_text_behind 0 bad ≡ bad_line_text bad = λ bad. let none : 0 + bad.line ≡ bad.line = omega arith in ap (λ n. bad_line_text (record { line = n; cause = bad.cause })) none in
-    subst (λ (told : BadLine → List ℕ). IsJudgedIn script_limit told bundle judged) (λ i bad. same bad i) h
+    subst (λ (told : BadLine → List ℕ). IsRefusedWith (IsRefusalIn script_limit told bundle) e) (λ i bad. same bad i) h
 
 -- as many scripts are read as there are
 pub lists_many : {Z : Type 0} (scripts : List Script) (lists : List (Vec Command Z)) → AreCommandsOf scripts (lists_of lists) → length lists ≡ length scripts

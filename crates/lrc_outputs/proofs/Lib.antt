@@ -4,6 +4,7 @@ pub mod HistoryLemmas
 pub mod TurnLemmas
 pub mod PlayLemmas
 pub mod TrackLemmas
+pub mod ErrorLemmas
 pub mod JudgedLemmas
 pub mod AnswerLemmas
 pub mod EndLemmas

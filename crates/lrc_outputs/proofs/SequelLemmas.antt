@@ -16,22 +16,28 @@ use Rattle.lrc_image_text.specs.declared.error.ImageTextError.{ImageTextError}
 use Rattle.lrc_image_text.specs.declared.error.ImageTextError.TheVariants.{BadLine, OutOfMemory}
 use Rattle.lrc_image_text.specs.Texts.{IsRefused}
 use Rattle.lrc_book.specs.Books.{BookView}
+use Rattle.lrc_openings.specs.Begun.{IsBegunOver}
+use Rattle.lrc_openings.specs.Unopened.{IsUnbegun}
+use Rattle.lrc_openings.specs.declared.error.OpenError.{OpenError}
+use Rattle.lrc_openings.specs.declared.error.OpenError.TheVariants as opening
+use Rattle.lrc_refusals.specs.declared.refusal.InputRefusal.TheVariants as refusal
+use Rattle.lrc_refusals.specs.Refusals.{refusal_line}
 use Rattle.lrc_script.specs.Scripts.{lines_of}
 use Rattle.lrc_script.specs.Bundles.{Script, scripts_of}
 use Rattle.lrc_script.specs.Cuts.{IsCut}
 use Rattle.lrc_script.proofs.CutLemmas.{pieces_behind, slice_split-cut}
 use Rattle.lrc_outputs.specs.declared.status.Status.{Status}
-use Rattle.lrc_outputs.specs.declared.status.Status.TheVariants as ended
 use Rattle.lrc_outputs.specs.declared.sequel.Goal.{Goal}
 use Rattle.lrc_outputs.specs.declared.sequel.Goal.TheVariants as to
-use Rattle.lrc_outputs.specs.declared.begin.Begun.{Begun}
-use Rattle.lrc_outputs.specs.declared.begin.Begun.TheVariants.{Refused, Good}
+use Rattle.lrc_outputs.specs.declared.error.OutputError.{OutputError}
 use Rattle.lrc_outputs.specs.Limits.{sequel_limit}
-use Rattle.lrc_outputs.specs.RefusedInputs.{bad_line_text_behind, bad_image_text}
+use Rattle.lrc_outputs.specs.RefusedInputs.{bad_line_text_behind}
 use Rattle.lrc_outputs.specs.Outputs.{IsAnsweredIn}
 use Rattle.lrc_outputs.specs.Judged.{lists_of, NoEnding, IsRefusalIn, IsAccepted}
 use Rattle.lrc_outputs.specs.Sequels.{bytes_to_end, is_end, image_part, bundle_part, lines_before, ReadsImage, Start, start_in, Going, IsBegunUnless, sequel_judging, IsToldAfter, IsToldUnless, IsTold, IsImaged, IsMadeFrom, IsReached, going_to, IsSequelOutput}
-use Rattle.lrc_outputs.specs.Begun.{IsBadImage, IsBegunOver, NotGoing, IsGoodIn, IsBegunIn, IsGoodSequel, IsBegunBy}
+use Rattle.lrc_outputs.specs.Starts.{IsBadImage, IsRefusedRow, IsBegunHere, NotGoing, IsGoodSequel}
+use Rattle.lrc_outputs.specs.OutputErrors.{IsRefusedWith, of_image_text, of_opening}
+use Rattle.lrc_outputs.proofs.ErrorLemmas.{refused_as}
 use Rattle.lrc_outputs.proofs.JudgedLemmas.{good_to_end, few_scripts, lists_many}
 use Rattle.lrc_outputs.proofs.AnswerLemmas.{ends_other}
 
@@ -121,8 +127,8 @@ pub good_told : (going : Going) (sequel text : List ℕ) (status : Status) (b : 
 good_told going sequel text status b scripts good h =
     let start = start_in good.image in
     let way = sequel_judging going start (lines_before sequel) in
-    let end = begun-none going (start.cause_over b.nodes) b.nodes start (scripts_of (bundle_part sequel)) text status good.good.rows h in
-    told_short going sequel text status good.short (Ok good.image, good.read, good_to_end way (bundle_part sequel) text status b.nodes scripts good.good.accepted end)
+    let end = begun-none going (start.cause_over b.nodes) b.nodes start (scripts_of (bundle_part sequel)) text status good.begun.rows h in
+    told_short going sequel text status good.short (Ok good.image, good.read, good_to_end way (bundle_part sequel) text status b.nodes scripts good.accepted end)
 
 -- an image that is taken leaves room for the numbers of a history
 pub room_before : (nodes : List NodeInfo) (image : Option Image) → (start_in image).cause_over nodes ≡ None → (start_in image).before ≤ most_entries
@@ -135,45 +141,65 @@ one_script bundle nodes scripts good = subst (λ n. n ≤ 1) (sym (lists_many (s
 
 -- ---- the book that begins
 
--- after the bundle's checks
-pub begun_in : (image : Option Image) (passed : ℕ) (bundle : List ℕ) (nodes : List NodeInfo) (scripts : List (Vec Command Global)) (begun : Begun) → IsAccepted 1 bundle nodes scripts
-    → IsBegunOver nodes (start_in image) scripts begun → IsBegunIn image passed bundle begun
-begun_in image passed bundle nodes scripts (Refused output) good (found, is, told, end) =
-    let start = start_in image in
-    let way = sequel_judging NotGoing start passed in
-    let over = subst (λ (o : Option (ℕ × Cause)). IsBegunUnless NotGoing o nodes start (scripts_of bundle) output.text.items output.status) (sym is) (told, end) in
-    good_to_end way bundle output.text.items output.status nodes scripts good over
-begun_in image passed bundle nodes scripts (Good book given) good (none, fresh, same) =
-    let start = start_in image in
-    let taken = subst (λ (ns : List NodeInfo). IsAccepted 1 bundle ns scripts) (sym fresh.over) good in
-    record {
-      accepted = subst (λ (ss : List (Vec Command Global)). IsAccepted 1 bundle book.value.nodes ss) (sym same) taken;
-      rows = subst (λ (ns : List NodeInfo). start.cause_over ns ≡ None) (sym fresh.over) none;
-      fresh = record { over = refl; base = fresh.base; before = fresh.before; limit = fresh.limit; history = fresh.history };
-    }
-
 -- what stands in the code's own names: the parts of the sequel
 module _ (sequel part bundle : List ℕ) (passed : ℕ) (short : length sequel ≤ sequel_limit) (part_is : part ≡ image_part sequel) (bundle_is : bundle ≡ bundle_part sequel)
     (passed_is : passed ≡ count_by (λ b. nat_eq b 10) part) where
   lines_are : passed ≡ lines_before sequel
   lines_are = passed_is ∙ ap (count_by (λ b. nat_eq b 10)) part_is
 
-  pub begun_by : (image : Option Image) (begun : Begun) → ReadsImage part (Ok image) → IsBegunIn image passed bundle begun → IsBegunBy sequel begun
-  begun_by image (Refused output) read h =
-      let text = output.text.items in
-      let way = sequel_judging NotGoing (start_in image) in
-      let behind = subst (λ n. IsAnsweredIn (way n) bundle text output.status) lines_are h in
-      told_short NotGoing sequel text output.status short
-      (Ok image, subst (λ (t : List ℕ). ReadsImage t (Ok image)) part_is read, subst (λ (b : List ℕ). IsAnsweredIn (way (lines_before sequel)) b text output.status) bundle_is behind)
-  begun_by image (Good book scripts) read h = record {
-    short = short;
-    image = image;
-    read = subst (λ (t : List ℕ). ReadsImage t (Ok image)) part_is read;
-    good = subst (λ (b : List ℕ). IsGoodIn (start_in image) b book.value scripts.items) bundle_is h;
-  }
+  pub image_refused : (e : ImageTextError) → IsBadImage part e → IsRefusedWith (IsTold NotGoing sequel) (of_image_text e)
+  image_refused (BadLine line) bad = told_short NotGoing sequel _ _ short (Err line, subst (λ (t : List ℕ). ReadsImage t (Err line)) part_is bad, (refl, refl))
+  image_refused OutOfMemory bad = refl
 
-  pub bad_image_told : (line : ℕ) (text : List ℕ) (status : Status) → ReadsImage part (Err line) → text ≡ bad_image_text line → status ≡ ended.Refused → IsTold NotGoing sequel text status
-  bad_image_told line text status read told end = told_short NotGoing sequel text status short (Err line, subst (λ (t : List ℕ). ReadsImage t (Err line)) part_is read, (told, end))
+  module _ (image : Option Image) (read : ReadsImage part (Ok image)) where
+    told_behind : (text : List ℕ) (status : Status) → IsAnsweredIn (sequel_judging NotGoing (start_in image) passed) bundle text status → IsTold NotGoing sequel text status
+    told_behind text status h =
+        let way = sequel_judging NotGoing (start_in image) in
+        let behind = subst (λ n. IsAnsweredIn (way n) bundle text status) lines_are h in
+        told_short NotGoing sequel text status short
+        (Ok image, subst (λ (t : List ℕ). ReadsImage t (Ok image)) part_is read, subst (λ (b : List ℕ). IsAnsweredIn (way (lines_before sequel)) b text status) bundle_is behind)
+
+    pub bundle_refused : (e : OutputError) → IsRefusedWith (IsRefusalIn 1 (bad_line_text_behind passed) bundle) e → IsRefusedWith (IsTold NotGoing sequel) e
+    bundle_refused e h =
+        refused_as _ (IsTold NotGoing sequel)
+        (λ text status refused. told_behind text status (refused_in NotGoing (start_in image) passed bundle text status refused)) e h
+
+    module _ (nodes : List NodeInfo) (scripts : List (Vec Command Global)) (accepted : IsAccepted 1 bundle nodes scripts) where
+      row_told : (text : List ℕ) (status : Status) → IsRefusedRow nodes (start_in image) text status → IsTold NotGoing sequel text status
+      row_told text status (found, is, told, end) =
+          let start = start_in image in
+          let over = subst (λ (o : Option (ℕ × Cause)). IsBegunUnless NotGoing o nodes start (scripts_of bundle) text status) (sym is) (told, end) in
+          told_behind text status (good_to_end (sequel_judging NotGoing start passed) bundle text status nodes scripts accepted over)
+
+      pub row_refused : (e : OutputError) → IsRefusedWith (IsRefusedRow nodes (start_in image)) e → IsRefusedWith (IsTold NotGoing sequel) e
+      row_refused e h = refused_as _ (IsTold NotGoing sequel) row_told e h
+
+      pub good_sequel : (b : BookView) → IsBegunHere nodes (start_in image) b → IsGoodSequel sequel b scripts
+      good_sequel b begun =
+          let same = sym begun.over in record {
+            short = short;
+            image = image;
+            read = subst (λ (t : List ℕ). ReadsImage t (Ok image)) part_is read;
+            accepted = subst (λ (t : List ℕ). IsAccepted 1 t b.nodes scripts) bundle_is (subst (λ (ns : List NodeInfo). IsAccepted 1 bundle ns scripts) same accepted);
+            begun = subst (λ (ns : List NodeInfo). IsBegunHere ns (start_in image) b) same begun;
+          }
+
+-- the same in the names of lrc_openings
+pub begun_image : (nodes : List NodeInfo) (i : Image) (b : BookView) → IsBegunOver nodes i b → IsBegunHere nodes (start_in (Some i)) b
+begun_image nodes i b over = record {
+  rows = over.lawful;
+  over = over.begun.nodes_are;
+  base = over.begun.base_is;
+  before = over.begun.before_is;
+  limit = over.limit_is;
+  history = over.begun.empty;
+}
+
+pub unbegun_image : (nodes : List NodeInfo) (i : Image) (e : OpenError) → IsUnbegun nodes i e → IsRefusedWith (IsRefusedRow nodes (start_in (Some i))) (of_opening e)
+unbegun_image nodes i (opening.Nodes e) never = absurd never
+unbegun_image nodes i (opening.Text e) never = absurd never
+unbegun_image nodes i (opening.Line line cause) (position, first, line_is) = ((position, cause), first, ap (λ n. refusal_line (refusal.Row n cause)) line_is, refl)
+unbegun_image nodes i opening.OutOfMemory why = refl
 
 -- ---- what is written
 
@@ -182,9 +208,9 @@ pub reached_by : (goal : Goal) (sequel text : List ℕ) (status : Status) (b : B
 reached_by goal sequel text status b scripts good reached =
     let start = start_in good.image in
     let lists = lists_of scripts in
-    let based = subst (λ (w : World). IsReached goal b.nodes w b.before lists text status) good.good.fresh.base reached in
-    let behind = subst (λ n. IsReached goal b.nodes start.base n lists text status) good.good.fresh.before based in
-    good_told (going_to goal) sequel text status b scripts good (lists, good.good.accepted.commands, behind)
+    let based = subst (λ (w : World). IsReached goal b.nodes w b.before lists text status) good.begun.base reached in
+    let behind = subst (λ n. IsReached goal b.nodes start.base n lists text status) good.begun.before based in
+    good_told (going_to goal) sequel text status b scripts good (lists, good.accepted.commands, behind)
 
 -- the book has made the commands of these scripts
 made_from : (b after : BookView) (scripts : List (Vec Command Global)) → after.nodes ≡ b.nodes → after.base ≡ b.base → after.before ≡ b.before
@@ -216,8 +242,8 @@ bad_image text OutOfMemory some bad = tt
 -- the book has room for a history
 pub fresh_book : (sequel : List ℕ) (b : BookView) (scripts : List (Vec Command Global)) → IsGoodSequel sequel b scripts → (b.history ≡ []) × (b.limit ≡ 1000000) × (b.before ≤ most_entries)
 fresh_book sequel b scripts good =
-    let fresh = good.good.fresh in
-    (fresh.history, fresh.limit, subst (λ n. n ≤ most_entries) (sym fresh.before) (room_before b.nodes good.image good.good.rows))
+    let fresh = good.begun in
+    (fresh.history, fresh.limit, subst (λ n. n ≤ most_entries) (sym fresh.before) (room_before b.nodes good.image good.begun.rows))
 
-pub not_full : (i : Image) → IsErrOf (Ok i) HistoryFull → ⊥
-not_full i e = absurd (let never : Ok i ≡ Err HistoryFull = e in cc)
+pub not_full : {X : Type 0} (x : X) → IsErrOf (Ok x) HistoryFull → ⊥
+not_full x e = absurd (let never : Ok x ≡ Err HistoryFull = e in cc)

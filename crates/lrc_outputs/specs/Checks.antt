@@ -1,5 +1,6 @@
 -- What a check of a bundle or of a sequel writes, and how it ends.
-use Rattle.std.specs.Prelude.{◌≡◌, ℕ, ◌≤◌, Bool, true, false, not, ◌&&◌, if◌then◌else◌, nat_lt, List, [], ◌++◌, length, map, sum, filter, codes, decimal, Option, None, Ok, unwrap_or}
+use Rattle.std.specs.Prelude.{◌≡◌, ℕ, ◌≤◌, Bool, true, false, not, ◌&&◌, if◌then◌else◌, nat_lt}
+use Rattle.std.specs.Prelude.{List, [], ◌++◌, length, map, sum, filter, codes, decimal, Option, None, Ok, unwrap_or}
 use Rattle.std.specs.List.{last_or}
 use Rattle.lrc_topology.specs.declared.NodeInfo.{NodeInfo}
 use Rattle.lrc_topology.specs.Documents.{IsTopologyOf}
@@ -19,27 +20,29 @@ command_count script = length (filter (λ line. not (is_passed_over line)) scrip
 
 -- the line for these numbers of nodes, scripts and commands
 abbrev pub counts_line : ℕ → ℕ → ℕ → List ℕ
-counts_line nodes scripts commands = codes "ok nodes " ++ decimal nodes ++ codes " scripts " ++ decimal scripts ++ codes " commands " ++ decimal commands ++ codes "\n"
+counts_line nodes scripts commands =
+    codes "ok nodes " ++ decimal nodes ++ codes " scripts " ++ decimal scripts ++ codes " commands " ++ decimal commands
+    ++ codes "\n"
 
 -- the line for a number of nodes and these scripts: their number, and the number of all their commands
 abbrev pub counted_line : ℕ → List Script → List ℕ
 counted_line nodes scripts = counts_line nodes (length scripts) (sum (map command_count scripts))
 
 -- what is written for nodes and scripts that pass all checks
-abbrev pub AreCounted : Answer
-AreCounted nodes scripts text = text ≡ counted_line (length nodes) scripts
+abbrev pub IsCountedLine : Answer
+IsCountedLine nodes scripts text = text ≡ counted_line (length nodes) scripts
 
 -- the same behind an image, and how it ends
 abbrev pub counting : Going
-counting nodes start scripts text status = AreCounted nodes scripts text × (status ≡ ended.Done)
+counting nodes start scripts text status = IsCountedLine nodes scripts text × (status ≡ ended.Done)
 
 -- what is written for an input that has an image or has none, and how it ends
 abbrev pub IsCheckIn : Bool → List ℕ → List ℕ → Status → Type 0
 IsCheckIn true sequel text status = IsTold counting sequel text status
-IsCheckIn false bundle text status = IsAnswered AreCounted bundle text status
+IsCheckIn false bundle text status = IsAnswered IsCountedLine bundle text status
 
--- A check of this input writes this text and ends with this status. Behind an image it refuses what going on from the image
--- refuses, and else what a run refuses, in the same way.
+-- A check of this input writes this text and ends with this status. Behind an image it refuses what going on from the
+-- image refuses, and else what a run refuses, in the same way.
 abbrev pub IsCheck : List ℕ → List ℕ → Status → Type 0
 IsCheck input text status = IsCheckIn (has_image input) input text status
 
@@ -51,7 +54,7 @@ most_scripts true = 1
 most_scripts false = script_limit
 
 -- the input passes all checks, those of its image too if it has one, and has these nodes
-pub record Passes (input : List ℕ) (nodes : List NodeInfo) : Type 0 where
+pub record PassesAllChecks (input : List ℕ) (nodes : List NodeInfo) : Type 0 where
   pub short : length input ≤ sequel_limit
   pub image : Option Image
   pub image_read : ReadsImage (image_part input) (Ok image)
@@ -82,7 +85,8 @@ warned_of nodes bundle = warnings nodes ++ end_warning (length (scripts_of bundl
 
 -- this is what the check of an input warns of, if it ends with this status: nothing, unless the input passes all checks
 abbrev pub IsWarned : List ℕ → List ℕ → Status → Type 0
-IsWarned input text ended.Done = (nodes : List NodeInfo) × Passes input nodes × (text ≡ warned_of nodes (bundle_part input))
+IsWarned input text ended.Done =
+    (nodes : List NodeInfo) × PassesAllChecks input nodes × (text ≡ warned_of nodes (bundle_part input))
 IsWarned input text ended.BadLine = text ≡ []
 IsWarned input text ended.Refused = text ≡ []
 IsWarned input text ended.Unsafe = text ≡ []

@@ -1,5 +1,5 @@
 -- Internal: no public clause reaches these definitions.
--- The result of the checks of a bundle: a refusal, or nodes and the commands of its scripts.
+-- What the checks of a bundle find: a refusal, or nodes and the commands of its scripts.
 use Rattle.std.specs.Prelude.{◌≡◌, ℕ, ◌+◌, ◌≤◌, All, List, [], ◌∷◌, length, map, sum_by, Option, None, option_map, Vec}
 use Rattle.std.specs.List.{AllZip}
 use Rattle.lrc_topology.specs.declared.NodeInfo.{NodeInfo}
@@ -10,10 +10,7 @@ use Rattle.lrc_script.specs.declared.bundle.ScriptText.{ScriptText}
 use Rattle.lrc_script.specs.Scripts.{lines_of, IsScript, BadLine, or_else, first_bad}
 use Rattle.lrc_script.specs.Bundles.{scripts_of, topology_of}
 use Rattle.lrc_outputs.specs.declared.status.Status.{Status}
-use Rattle.lrc_outputs.specs.declared.judging.Judged.{Judged}
-use Rattle.lrc_outputs.specs.declared.judging.Judged.TheVariants.{Refused, Good}
 use Rattle.lrc_outputs.specs.Limits.{script_limit}
-use Rattle.lrc_outputs.specs.RefusedInputs.{bad_line_text, bad_line_text_behind}
 use Rattle.lrc_outputs.specs.Outputs.{early_refusal_over, first_bad_of, AreCommandsOf, Ending, IsAnsweredIn}
 
 -- ---- scripts
@@ -48,27 +45,17 @@ pub record AreFew {Z : Type 0} (scripts : List (Vec Command Z)) : Type 0 where
 abbrev pub NoEnding : Ending
 NoEnding nodes scripts text status = ⊥
 
--- a check of this bundle, which has at most so many scripts, fails with this text and this status; a bad line has this text
+-- a check of this bundle, which has at most so many scripts, fails with this text and this status; a bad line has this
+-- text
 abbrev pub IsRefusalIn : ℕ → (BadLine → List ℕ) → List ℕ → List ℕ → Status → Type 0
-IsRefusalIn most bad_text bundle text status = IsAnsweredIn (record { most = most; bad_text = bad_text; ending = NoEnding }) bundle text status
+IsRefusalIn most bad_text bundle text status =
+    IsAnsweredIn (record { most = most; bad_text = bad_text; ending = NoEnding }) bundle text status
 
 -- the bundle passes all checks, with at most so many scripts, and has these nodes and these commands of each script
-pub record IsAccepted {Z : Type 0} (most : ℕ) (bundle : List ℕ) (nodes : List NodeInfo) (scripts : List (Vec Command Z)) : Type 0 where
+pub record IsAccepted {Z : Type 0} (most : ℕ) (bundle : List ℕ) (nodes : List NodeInfo)
+    (scripts : List (Vec Command Z)) : Type 0 where
   pub early : early_refusal_over most bundle ≡ None
   pub read : IsTopologyOf (topology_of bundle) nodes
   pub no_bad : first_bad_of (scripts_of bundle) ≡ None
   pub commands : AreCommandsOf (scripts_of bundle) (lists_of scripts)
   pub few : AreFew scripts
-
--- a check of this bundle fails, or it has these nodes, and these commands
-abbrev pub IsJudgedIn : ℕ → (BadLine → List ℕ) → List ℕ → Judged → Type 0
-IsJudgedIn most bad_text bundle (Refused output) = IsRefusalIn most bad_text bundle output.text.items output.status
-IsJudgedIn most bad_text bundle (Good topology scripts) = IsAccepted most bundle topology scripts.items
-
--- the same of a bundle that stands behind so many lines
-abbrev pub IsJudgedBehind : ℕ → ℕ → List ℕ → Judged → Type 0
-IsJudgedBehind most passed bundle judged = IsJudgedIn most (bad_line_text_behind passed) bundle judged
-
--- the same of a bundle that stands alone
-abbrev pub IsJudged : List ℕ → Judged → Type 0
-IsJudged bundle judged = IsJudgedIn script_limit bad_line_text bundle judged

@@ -12,7 +12,8 @@ pub mod RefusedInputs
 pub mod Faults
 pub mod Outputs
 pub mod Plays
+pub mod OutputErrors
 pub mod Judged
 pub mod Sequels
 pub mod Checks
-pub mod Begun
+pub mod Starts

@@ -1,5 +1,6 @@
 -- What a run writes for a bundle, and how it ends.
-use Rattle.std.specs.Prelude.{◌≡◌, ◌≢◌, ℕ, ◌≤◌, ◌<◌, if◌then◌else◌, nat_lt, List, [], ◌∷◌, length, All, codes, Option, Some, None, Result, Ok, Err}
+use Rattle.std.specs.Prelude.{◌≡◌, ◌≢◌, ℕ, ◌≤◌, ◌<◌, if◌then◌else◌, nat_lt}
+use Rattle.std.specs.Prelude.{List, [], ◌∷◌, length, All, codes, Option, Some, None, Result, Ok, Err}
 use Rattle.std.specs.List.{AllZip}
 use Rattle.lrc_topology.specs.declared.NodeInfo.{NodeInfo}
 use Rattle.lrc_topology.specs.declared.error.TopologyError.{TopologyError}
@@ -74,7 +75,8 @@ IsAnsweredAfter way (Ok nodes) scripts text status = IsAnsweredOver way nodes sc
 abbrev pub IsAnsweredUnless : Judging → Option (List ℕ) → List ℕ → List ℕ → Status → Type 0
 IsAnsweredUnless way (Some line) bundle text status = (text ≡ line) × (status ≡ ended.Refused)
 IsAnsweredUnless way None bundle text status =
-    (outcome : Result (List NodeInfo) TopologyError) × Reads (topology_of bundle) outcome × IsAnsweredAfter way outcome (scripts_of bundle) text status
+    (outcome : Result (List NodeInfo) TopologyError) × Reads (topology_of bundle) outcome
+    × IsAnsweredAfter way outcome (scripts_of bundle) text status
 
 -- the bundle, judged in this way, is answered by this text and this status
 abbrev pub IsAnsweredIn : Judging → List ℕ → List ℕ → Status → Type 0
@@ -89,7 +91,11 @@ Answer = List NodeInfo → List Script → List ℕ → Type 0
 -- the way to judge a bundle that stands alone
 abbrev pub run_judging : Answer → Judging
 run_judging answer =
-    record { most = script_limit; bad_text = bad_line_text; ending = λ nodes scripts text status. answer nodes scripts text × (status ≡ ended.Done) }
+    record {
+      most = script_limit;
+      bad_text = bad_line_text;
+      ending = λ nodes scripts text status. answer nodes scripts text × (status ≡ ended.Done);
+    }
 
 -- the bundle is answered by this text and this status
 abbrev pub IsAnswered : Answer → List ℕ → List ℕ → Status → Type 0
@@ -97,9 +103,10 @@ IsAnswered answer bundle text status = IsAnsweredIn (run_judging answer) bundle 
 
 -- ---- the output of a run
 
--- What is printed of scripts with these commands: of a history in which each session makes the commands of its script, in order, and which has no other entries. It is
--- legal from this world on, before which the store had `before` entries.
-pub record IsPlayedFrom (nodes : List NodeInfo) (base : World) (before : ℕ) (scripts : List (List Command)) (text : List ℕ) : Type 0 where
+-- What is printed of scripts with these commands: of a history in which each session makes the commands of its script,
+-- in order, and which has no other entries. It is legal from this world on, before which the store had `before` entries.
+pub record IsPlayedFrom (nodes : List NodeInfo) (base : World) (before : ℕ) (scripts : List (List Command))
+    (text : List ℕ) : Type 0 where
   pub history : List Entry
   pub legal : IsLegalFrom nodes base history
   pub made : commands_of_each (length scripts) history ≡ scripts

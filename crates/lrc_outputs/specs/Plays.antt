@@ -11,8 +11,10 @@ use Rattle.lrc_board.specs.declared.receipt.Receipt.{Receipt}
 use Rattle.lrc_sessions.specs.declared.track.Track.{Track}
 use Rattle.lrc_text.specs.Texts.{reply_line, script_line, replies_text_behind}
 
--- the sessions made the commands of their scripts, in order, and no others, in this history, which is legal from this world on, and of whose replies this is printed
-pub record AreMadeFrom (nodes : List NodeInfo) (base : World) (before : ℕ) (scripts : List (List Command)) (history : List Entry) (text : List ℕ) : Type 0 where
+-- the sessions made the commands of their scripts, in order, and no others, in this history, which is legal from this
+-- world on, and of whose replies this is printed
+pub record AreMadeFrom (nodes : List NodeInfo) (base : World) (before : ℕ) (scripts : List (List Command))
+    (history : List Entry) (text : List ℕ) : Type 0 where
   pub legal : IsLegalFrom nodes base history
   pub made : commands_of_each (length scripts) history ≡ scripts
   pub alone : All (λ e. e.session.value ≤ length scripts) history
@@ -23,7 +25,8 @@ abbrev pub AreMade : List NodeInfo → List (List Command) → List Entry → Li
 AreMade nodes scripts history text = AreMadeFrom nodes first_world 0 scripts history text
 
 -- these commands were made after these entries, all by this session
-pub record AreMadeBehind (before : List Entry) (session : SessionNo) (commands : List Command) (after : List Entry) : Type 0 where
+pub record AreMadeBehind (before : List Entry) (session : SessionNo) (commands : List Command)
+    (after : List Entry) : Type 0 where
   pub added : List Entry
   pub behind : after ≡ before ++ added
   pub made : map (λ e. e.command) added ≡ commands

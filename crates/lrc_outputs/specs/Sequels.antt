@@ -1,5 +1,7 @@
 -- What is written for a sequel, and how it ends: an image of a state, or none, and a bundle behind it.
-use Rattle.std.specs.Prelude.{◌≡◌, ◌≢◌, ◌⊎◌, ℕ, ◌+◌, ◌≤◌, min, Bool, true, false, ◌&&◌, if◌then◌else◌, nat_lt, nat_eq, List, [], ◌∷◌, length, take, drop, count_by, All, slice_index, codes, Option, Some, None, Result, Ok, Err}
+use Rattle.std.specs.Prelude.{◌≡◌, ◌≢◌, ◌⊎◌, ℕ, ◌+◌, ◌≤◌, min, Bool, true, false, ◌&&◌, if◌then◌else◌, nat_lt, nat_eq}
+use Rattle.std.specs.Prelude.{List, [], ◌∷◌, length, take, drop, count_by, All, slice_index, codes}
+use Rattle.std.specs.Prelude.{Option, Some, None, Result, Ok, Err}
 use Rattle.std.specs.List.{starts_with}
 use Rattle.std.specs.Char.{is_ascii_digit}
 use Rattle.lrc_code.specs.declared.numbers.UpgradeNo.{UpgradeNo}
@@ -43,12 +45,13 @@ abbrev pub bytes_to_end : List (List ℕ) → ℕ
 bytes_to_end [] = 0
 bytes_to_end (line ∷ lines) = length line + 1 + (if is_end line then 0 else bytes_to_end lines)
 
--- A sequel has an image if it begins with `image ` and a digit, as no topology does. (A byte that is not there counts as 0.)
+-- A sequel has an image if it begins with `image ` and a digit, as no topology does. (A byte that is not there counts
+-- as 0.)
 abbrev pub has_image : List ℕ → Bool
 has_image sequel = starts_with nat_eq sequel (codes "image ") && is_ascii_digit (slice_index sequel 6)
 
--- How many bytes of a sequel are the text of its image: none if it has none, and else all up to its first line `end`, that line
--- included, or the whole sequel if it has no such line.
+-- How many bytes of a sequel are the text of its image: none if it has none, and else all up to its first line `end`,
+-- that line included, or the whole sequel if it has no such line.
 abbrev pub image_size : List ℕ → ℕ
 image_size sequel = if has_image sequel then min (bytes_to_end (lines_of sequel)) (length sequel) else 0
 
@@ -66,14 +69,15 @@ lines_before sequel = count_by (λ b. nat_eq b 10) (image_part sequel)
 
 -- ---- where the book of a sequel begins
 
--- The text is read as an image with this outcome: none if the text is empty, the image, or the number of its first bad line.
+-- The text is read as an image with this outcome: none if the text is empty, the image, or the number of its first bad
+-- line.
 abbrev pub ReadsImage : List ℕ → Result (Option Image) ℕ → Type 0
 ReadsImage text (Ok None) = text ≡ []
 ReadsImage text (Ok (Some i)) = IsWritten i × (text ≡ image_text i)
 ReadsImage text (Err line) = (text ≢ []) × IsBadLine text line
 
--- the world in which a book begins, the number of entries of the store before it, the domain that is upgrading in it, and
--- the first row over these nodes that is wrong, with its cause
+-- the world in which a book begins, the number of entries of the store before it, the domain that is upgrading in it,
+-- and the first row over these nodes that is wrong, with its cause
 pub record Start : Type 0 where
   pub base : World
   pub before : ℕ
@@ -83,7 +87,12 @@ pub record Start : Type 0 where
 -- the start of a book in this image, or of an empty store
 abbrev pub start_in : Option Image → Start
 start_in None = record { base = first_world; before = 0; upgrading = None; cause_over = λ nodes. None }
-start_in (Some i) = record { base = image_world i; before = i.before; upgrading = i.upgrading; cause_over = λ nodes. first_cause nodes i }
+start_in (Some i) = record {
+  base = image_world i;
+  before = i.before;
+  upgrading = i.upgrading;
+  cause_over = λ nodes. first_cause nodes i;
+}
 
 -- ---- the answer to a sequel: that of the first check that fails, or the one that it gets where all pass
 
@@ -93,14 +102,20 @@ Going = List NodeInfo → Start → List Script → List ℕ → Status → Type
 
 -- after the check of the image's rows, of which one was refused, or none
 abbrev pub IsBegunUnless : Going → Option (ℕ × Cause) → List NodeInfo → Start → List Script → List ℕ → Status → Type 0
-IsBegunUnless going (Some found) nodes start scripts text status = (text ≡ refused_row_text start.upgrading found) × (status ≡ ended.Refused)
+IsBegunUnless going (Some found) nodes start scripts text status =
+    (text ≡ refused_row_text start.upgrading found) × (status ≡ ended.Refused)
 IsBegunUnless going None nodes start scripts text status = going nodes start scripts text status
 
--- The way to judge the bundle of a sequel: it has at most one script, and its lines are counted behind those of the image. The
--- rows of the image are checked after it.
+-- The way to judge the bundle of a sequel: it has at most one script, and its lines are counted behind those of the
+-- image. The rows of the image are checked after it.
 abbrev pub sequel_judging : Going → Start → ℕ → Judging
 sequel_judging going start passed =
-    record { most = 1; bad_text = bad_line_text_behind passed; ending = λ nodes scripts text status. IsBegunUnless going (start.cause_over nodes) nodes start scripts text status }
+    record {
+      most = 1;
+      bad_text = bad_line_text_behind passed;
+      ending = λ nodes scripts text status.
+          IsBegunUnless going (start.cause_over nodes) nodes start scripts text status;
+    }
 
 -- after the check of the image's text, with its outcome
 abbrev pub IsToldAfter : Going → Result (Option Image) ℕ → List ℕ → List ℕ → Status → Type 0
@@ -112,7 +127,8 @@ IsToldAfter going (Ok image) sequel text status =
 abbrev pub IsToldUnless : Going → Bool → List ℕ → List ℕ → Status → Type 0
 IsToldUnless going true sequel text status = (text ≡ codes "bundle 1\n") × (status ≡ ended.Refused)
 IsToldUnless going false sequel text status =
-    (outcome : Result (Option Image) ℕ) × ReadsImage (image_part sequel) outcome × IsToldAfter going outcome sequel text status
+    (outcome : Result (Option Image) ℕ) × ReadsImage (image_part sequel) outcome
+    × IsToldAfter going outcome sequel text status
 
 -- the sequel is answered by this text and this status
 abbrev pub IsTold : Going → List ℕ → List ℕ → Status → Type 0
@@ -128,7 +144,8 @@ IsImaged b text status =
 
 -- the table of a book's state that is asked for
 abbrev pub IsTable : View → BookView → List ℕ → Status → Type 0
-IsTable view b text status = (text ≡ view_text view b.nodes (state_of b) (b.before + length b.history)) × (status ≡ ended.Done)
+IsTable view b text status =
+    (text ≡ view_text view b.nodes (state_of b) (b.before + length b.history)) × (status ≡ ended.Done)
 
 -- how a forecast ends, by whether it is safe
 abbrev pub safety_status : Bool → Status
@@ -144,8 +161,10 @@ abbrev pub IsForecast : Outage → List Named → BookView → List ℕ → Stat
 IsForecast outage named b text status =
     let rows = forecast_of outage named b in ((text ≡ forecast_text rows) × (status ≡ safety_status (harms_none rows)))
 
--- the book began here, and in its history the sessions made the commands of their scripts, in order, and it has no other entries
-pub record IsMadeFrom (nodes : List NodeInfo) (base : World) (before : ℕ) (scripts : List (List Command)) (b : BookView) : Type 0 where
+-- the book began here, and in its history the sessions made the commands of their scripts, in order, and it has no
+-- other entries
+pub record IsMadeFrom (nodes : List NodeInfo) (base : World) (before : ℕ) (scripts : List (List Command))
+    (b : BookView) : Type 0 where
   pub over : b.nodes ≡ nodes
   pub begun : b.base ≡ base
   pub before_is : b.before ≡ before
@@ -153,25 +172,33 @@ pub record IsMadeFrom (nodes : List NodeInfo) (base : World) (before : ℕ) (scr
   pub made : commands_of_each (length scripts) b.history ≡ scripts
   pub only : All (λ e. e.session.value ≤ length scripts) b.history
 
--- What is written of a forecast after scripts with these commands: that no node has one of those named, or the table of the
--- forecast.
-abbrev pub IsForecastUnless : Option Named → Outage → List Named → List NodeInfo → World → ℕ → List (List Command) → List ℕ → Status → Type 0
-IsForecastUnless (Some lacks) outage named nodes base before lists text status = (text ≡ lacking_line lacks) × (status ≡ ended.Refused)
-IsForecastUnless None outage named nodes base before lists text status = (b : BookView) × IsMadeFrom nodes base before lists b × IsForecast outage named b text status
+-- What is written of a forecast after scripts with these commands: that no node has one of those named, or the table of
+-- the forecast.
+abbrev pub IsForecastUnless : Option Named → Outage → List Named
+    → List NodeInfo → World → ℕ → List (List Command) → List ℕ → Status → Type 0
+IsForecastUnless (Some lacks) outage named nodes base before lists text status =
+    (text ≡ lacking_line lacks) × (status ≡ ended.Refused)
+IsForecastUnless None outage named nodes base before lists text status =
+    (b : BookView) × IsMadeFrom nodes base before lists b × IsForecast outage named b text status
 
--- What is written of scripts with these commands, from this world on, before which the store had `before` entries: what `run`
--- writes, with places after those entries and the tables after the last command; or the image, or a table, or a forecast, of
--- the state after the scripts.
+-- What is written of scripts with these commands, from this world on, before which the store had `before` entries: what
+-- `run` writes, with places after those entries and the tables after the last command; or the image, or a table, or a
+-- forecast, of the state after the scripts.
 abbrev pub IsReached : Goal → List NodeInfo → World → ℕ → List (List Command) → List ℕ → Status → Type 0
-IsReached to.Replies nodes base before lists text status = IsPlayedFrom nodes base before lists text × (status ≡ ended.Done)
-IsReached to.Image nodes base before lists text status = (b : BookView) × IsMadeFrom nodes base before lists b × IsImaged b text status
-IsReached (to.Table view) nodes base before lists text status = (b : BookView) × IsMadeFrom nodes base before lists b × IsTable view b text status
-IsReached (to.Forecast outage named) nodes base before lists text status = IsForecastUnless (first_lacking nodes named.now) outage named.now nodes base before lists text status
+IsReached to.Replies nodes base before lists text status =
+    IsPlayedFrom nodes base before lists text × (status ≡ ended.Done)
+IsReached to.Image nodes base before lists text status =
+    (b : BookView) × IsMadeFrom nodes base before lists b × IsImaged b text status
+IsReached (to.Table view) nodes base before lists text status =
+    (b : BookView) × IsMadeFrom nodes base before lists b × IsTable view b text status
+IsReached (to.Forecast outage named) nodes base before lists text status =
+    IsForecastUnless (first_lacking nodes named.now) outage named.now nodes base before lists text status
 
 -- the same of scripts with these lines, in a book that begins here
 abbrev pub going_to : Goal → Going
 going_to goal nodes start scripts text status =
-    (lists : List (List Command)) × AreCommandsOf scripts lists × IsReached goal nodes start.base start.before lists text status
+    (lists : List (List Command)) × AreCommandsOf scripts lists
+    × IsReached goal nodes start.base start.before lists text status
 
 -- ---- what is written
 

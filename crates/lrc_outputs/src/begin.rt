@@ -1,57 +1,49 @@
 //! The checks of a sequel, which are made before its first command, and the book that begins where it says.
 
-ghost use Rattle.std.specs.Prelude.{◌≡◌, ◌≤◌, nat_eq, count_by, take, drop, length, None, Ok, IfOk, IfErr, IsOk};
-ghost use Rattle.lrc_restore.specs.Refused.{IsRefusedFor};
-ghost use Rattle.lrc_outputs.specs.Limits.{sequel_limit};
+ghost use Rattle.std.specs.Prelude.{◌≡◌, ◌≤◌, nat_eq, count_by, take, drop, length, None, Ok, IfOk, IfErr};
+ghost use Rattle.lrc_code.specs.declared.fault.Fault.TheVariants as book;
 ghost use Rattle.lrc_script.specs.Scripts.{lines_of};
 ghost use Rattle.lrc_script.specs.Cuts.{IsCut};
-ghost use Rattle.lrc_outputs.specs.Sequels.{has_image, bytes_to_end, image_size, bundle_part, ReadsImage, start_in};
-ghost use Rattle.lrc_outputs.specs.Begun.{IsBadImage, IsFresh, IsBegunOver, IsBegunIn, IsBegunBy};
-ghost use Rattle.lrc_streams.specs.declared.streams.RunFault.TheVariants as fault;
+ghost use Rattle.lrc_outputs.specs.Limits.{sequel_limit};
+ghost use Rattle.lrc_outputs.specs.OutputErrors.{IsRefusedWith};
+ghost use Rattle.lrc_outputs.specs.Sequels.{has_image, bytes_to_end, image_size, bundle_part};
+ghost use Rattle.lrc_outputs.specs.Sequels.{ReadsImage, start_in, IsTold};
+ghost use Rattle.lrc_outputs.specs.Starts.{IsBadImage, IsRefusedRow, IsBegunHere, NotGoing, IsGoodSequel};
 
-use crate::judging::{Judged, judge_behind};
+use crate::error::OutputError;
+use crate::judging::judge_behind;
 use crate::limits::SEQUEL_LIMIT;
-use crate::output::Output;
-use lrc_book::{BeginError, Book, Command, Image};
-use lrc_code::UpgradeNo;
-use lrc_image_text::{ImageTextError, read_image, row_line};
+use lrc_book::{Book, Command, Image};
+use lrc_code::Fault;
+use lrc_image_text::{ImageTextError, read_image};
 use lrc_refusals::InputRefusal;
-use lrc_streams::RunFault;
 use lrc_topology::Topology;
 use memchr::memchr;
 use std::alloc::Global;
 
-/// The result of the checks of a sequel.
+/// The book that a sequel begins, and what it is to run.
 #[derive(Drop)]
-pub(crate) enum Begun {
-    /// A check fails.
-    Refused(Output),
-    /// All checks pass.
-    Good {
-        book: Box<Book>,
-        /// The commands of the only script, if there is one.
-        scripts: Vec<Vec<Command>>,
-    },
+pub(crate) struct Begun {
+    pub(crate) book: Box<Book>,
+    /// The commands of the only script, if there is one.
+    pub(crate) scripts: Vec<Vec<Command>>,
 }
 
 /// Checks a sequel, and begins its book.
-pub(crate) fn begin(alloc: Global, sequel: &[u8]) -> Result<Begun, RunFault>
-    ensures begun { IfOk result (IsBegunBy sequel.now) }
-    ensures err { IfErr result (λ e. e ≡ fault.OutOfMemory) }
+pub(crate) fn begin(alloc: Global, sequel: &[u8]) -> Result<Begun, OutputError>
+    ensures begun { IfOk result (λ b. IsGoodSequel sequel.now b.book.value b.scripts.items) }
+    ensures refused { IfErr result (IsRefusedWith (IsTold NotGoing sequel.now)) }
 {
     if sequel.len() > SEQUEL_LIMIT {
-        return Ok(Begun::Refused(Output::refused(alloc, InputRefusal::TooLong)?));
+        return Err(OutputError::Refused(InputRefusal::TooLong));
     }
     let size = image_size(sequel);
     let text = &sequel[..size];
-    match read_start(alloc, text) {
-        Ok(image) => begin_in(alloc, image, &sequel[size..], count_lines(text)),
-        Err(ImageTextError::BadLine(line)) => {
-            let bad_image = Output::refused(alloc, InputRefusal::ImageLine(line))?;
-            Ok(Begun::Refused(bad_image))
-        }
-        Err(ImageTextError::OutOfMemory) => Err(RunFault::OutOfMemory),
-    }
+    let image = read_start(alloc, text)?;
+    let accepted = judge_behind(alloc, &sequel[size..], 1, count_lines(text))?;
+    let book = begin_over(alloc, accepted.topology, image)?;
+    let scripts = accepted.scripts;
+    Ok(Begun { book, scripts })
 }
 
 /// Whether a sequel begins with an image: no topology begins with `image ` and a digit.
@@ -128,67 +120,26 @@ fn read_start(alloc: Global, text: &[u8]) -> Result<Option<Image>, ImageTextErro
     Ok(Some(image))
 }
 
-/// Checks the bundle behind these lines, and begins a book over its nodes in the image.
-fn begin_in(
-    alloc: Global,
-    image: Option<Image>,
-    bundle: &[u8],
-    passed: u64,
-) -> Result<Begun, RunFault>
-    requires { passed ≤ SEQUEL_LIMIT }
-    ensures begun { IfOk result (IsBegunIn image passed bundle.now) }
-    ensures err { IfErr result (λ e. e ≡ fault.OutOfMemory) }
-{
-    match judge_behind(alloc, bundle, 1, passed)? {
-        Judged::Refused(output) => Ok(Begun::Refused(output)),
-        Judged::Good { topology, scripts } => begin_over(alloc, topology, image, scripts),
-    }
-}
-
-/// Begins a book over these nodes in the image.
+/// Begins a book over these nodes in the image, or an empty one where there is none.
 fn begin_over(
     alloc: Global,
     topology: Topology,
     image: Option<Image>,
-    scripts: Vec<Vec<Command>>,
-) -> Result<Begun, RunFault>
-    ensures begun { IfOk result (IsBegunOver topology (start_in image) scripts.items) }
-    ensures err { IfErr result (λ e. e ≡ fault.OutOfMemory) }
-{
-    let upgrading = upgrading_in(&image);
-    match new_book(alloc, topology, image) {
-        Ok(book) => Ok(Begun::Good { book, scripts }),
-        Err(BeginError::Refused(position, cause)) => {
-            let refusal = InputRefusal::Row(row_line(upgrading, position, cause), cause);
-            Ok(Begun::Refused(Output::refused(alloc, refusal)?))
-        }
-        Err(BeginError::OutOfMemory) => Err(RunFault::OutOfMemory),
-    }
-}
-
-/// The upgrade domain that is upgrading in the image.
-fn upgrading_in(image: &Option<Image>) -> Option<UpgradeNo>
-    ensures { result ≡ (start_in image.now).upgrading }
+) -> Result<Box<Book>, OutputError>
+    ensures begun { IfOk result (λ b. IsBegunHere topology (start_in image) b.value) }
+    ensures refused { IfErr result (IsRefusedWith (IsRefusedRow topology (start_in image))) }
 {
     match image {
-        Some(image) => image.upgrading,
-        None => None,
+        Some(image) => Ok(lrc_openings::begin_over(alloc, topology, image)?),
+        None => Ok(empty_book(alloc, topology)?),
     }
 }
 
-/// A book over these nodes that begins in the image, or empty where there is none.
-fn new_book(
-    alloc: Global,
-    topology: Topology,
-    image: Option<Image>,
-) -> Result<Box<Book>, BeginError>
-    ensures fresh { IfOk result (λ b. IsFresh topology (start_in image) b.value) }
-    ensures lawful { IsOk result → (start_in image).cause_over topology ≡ None }
-    ensures refused { IfErr result (IsRefusedFor ((start_in image).cause_over topology)) }
+/// An empty book over these nodes, in a box.
+fn empty_book(alloc: Global, topology: Topology) -> Result<Box<Book>, Fault>
+    ensures begun { IfOk result (λ b. IsBegunHere topology (start_in None) b.value) }
+    ensures err { IfErr result (λ e. e ≡ book.OutOfMemory) }
 {
-    let book = match image {
-        Some(image) => Book::begin(alloc, topology, image)?,
-        None => Book::new(alloc, topology)?,
-    };
+    let book = Book::new(alloc, topology)?;
     Ok(Box::new(alloc, book)?)
 }

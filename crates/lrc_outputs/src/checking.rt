@@ -1,15 +1,17 @@
 //! What a check of a bundle or of a sequel writes.
 
-ghost use Rattle.std.specs.Prelude.{◌≡◌, ◌++◌, true, false, length, sum_by, string_bytes, OnOk, IfOk, IfErr};
+ghost use Rattle.std.specs.Prelude.{◌≡◌, [], ◌++◌, true, false, length, sum_by, string_bytes, OnOk, IfOk, IfErr};
 ghost use Rattle.lrc_warnings.specs.Warnings.{warnings};
 ghost use Rattle.lrc_outputs.specs.Judged.{AreFew};
+ghost use Rattle.lrc_outputs.specs.OutputErrors.{IsRefusedWith, IsCheckRefusal};
 ghost use Rattle.lrc_outputs.specs.Sequels.{has_image};
 ghost use Rattle.lrc_outputs.specs.Checks.{counts_line, IsCheck, last_line, has_open_end, end_warning, IsWarned};
 ghost use Rattle.lrc_outputs.specs.declared.status.Status.TheVariants as ended;
 ghost use Rattle.lrc_streams.specs.declared.streams.RunFault.TheVariants as fault;
 
-use crate::begin::{Begun, begin, bundle_of, has_image};
-use crate::judging::{Judged, judge};
+use crate::begin::{begin, bundle_of, has_image};
+use crate::error::OutputError;
+use crate::judging::judge;
 use crate::output::Output;
 use lrc_book::Command;
 use lrc_streams::RunFault;
@@ -36,6 +38,22 @@ pub fn check_of(alloc: Global, input: &[u8]) -> Result<Checked, RunFault>
     ensures warned { IfOk result (λ c. IsWarned input.now (c.warnings.items) c.output.status) }
     ensures err { IfErr result (λ e. e ≡ fault.OutOfMemory) }
 {
+    match check_input(alloc, input) {
+        Ok(checked) => Ok(checked),
+        Err(error) => {
+            let output = error.into_output(alloc)?;
+            let warnings = Vec::new(alloc);
+            Ok(Checked { output, warnings })
+        }
+    }
+}
+
+/// What a check writes of an input that passes.
+fn check_input(alloc: Global, input: &[u8]) -> Result<Checked, OutputError>
+    ensures line { IfOk result (λ c. IsCheck input.now c.output.text.items c.output.status) }
+    ensures warned { IfOk result (λ c. IsWarned input.now c.warnings.items c.output.status) }
+    ensures refused { IfErr result (IsRefusedWith (IsCheckRefusal input.now)) }
+{
     if has_image(input) {
         check_sequel(alloc, input)
     } else {
@@ -43,43 +61,39 @@ pub fn check_of(alloc: Global, input: &[u8]) -> Result<Checked, RunFault>
     }
 }
 
-/// What a check writes of a bundle without an image.
-fn check_bundle(alloc: Global, bundle: &[u8]) -> Result<Checked, RunFault>
+/// What a check writes of a bundle without an image that passes.
+fn check_bundle(alloc: Global, bundle: &[u8]) -> Result<Checked, OutputError>
     requires { has_image bundle.now ≡ false }
-    ensures line { IfOk result (λ c. IsCheck bundle.now (c.output.text.items) c.output.status) }
-    ensures warned { IfOk result (λ c. IsWarned bundle.now (c.warnings.items) c.output.status) }
-    ensures err { IfErr result (λ e. e ≡ fault.OutOfMemory) }
+    ensures line { IfOk result (λ c. IsCheck bundle.now c.output.text.items c.output.status) }
+    ensures warned { IfOk result (λ c. IsWarned bundle.now c.warnings.items c.output.status) }
+    ensures refused { IfErr result (IsRefusedWith (IsCheckRefusal bundle.now)) }
 {
-    match judge(alloc, bundle)? {
-        Judged::Refused(output) => Ok(Checked {
-            output,
-            warnings: Vec::new(alloc),
-        }),
-        Judged::Good { topology, scripts } => passed(alloc, &topology, scripts.as_slice(), bundle),
-    }
+    let accepted = judge(alloc, bundle)?;
+    let checked = passed(
+        alloc,
+        &accepted.topology,
+        accepted.scripts.as_slice(),
+        bundle,
+    )?;
+    Ok(checked)
 }
 
-/// What a check writes of a sequel with an image.
-fn check_sequel(alloc: Global, sequel: &[u8]) -> Result<Checked, RunFault>
+/// What a check writes of a sequel with an image that passes.
+fn check_sequel(alloc: Global, sequel: &[u8]) -> Result<Checked, OutputError>
     requires { has_image sequel.now ≡ true }
-    ensures line { IfOk result (λ c. IsCheck sequel.now (c.output.text.items) c.output.status) }
-    ensures warned { IfOk result (λ c. IsWarned sequel.now (c.warnings.items) c.output.status) }
-    ensures err { IfErr result (λ e. e ≡ fault.OutOfMemory) }
+    ensures line { IfOk result (λ c. IsCheck sequel.now c.output.text.items c.output.status) }
+    ensures warned { IfOk result (λ c. IsWarned sequel.now c.warnings.items c.output.status) }
+    ensures refused { IfErr result (IsRefusedWith (IsCheckRefusal sequel.now)) }
 {
-    match begin(alloc, sequel)? {
-        Begun::Refused(output) => Ok(Checked {
-            output,
-            warnings: Vec::new(alloc),
-        }),
-        Begun::Good { book, scripts } => {
-            passed(
-                alloc,
-                book.topology(),
-                scripts.as_slice(),
-                bundle_of(sequel),
-            )
-        }
-    }
+    let begun = begin(alloc, sequel)?;
+    let bundle = bundle_of(sequel);
+    let checked = passed(
+        alloc,
+        begun.book.topology(),
+        begun.scripts.as_slice(),
+        bundle,
+    )?;
+    Ok(checked)
 }
 
 /// What a check writes of a bundle with these nodes and scripts, which passes.
@@ -90,9 +104,11 @@ fn passed(
     bundle: &[u8],
 ) -> Result<Checked, RunFault>
     requires { AreFew scripts.now }
-    ensures line { IfOk result (λ c. c.output.text.items ≡ counts_line (length topology.now) (length scripts.now) (sum_by (λ script. length script.items) scripts.now)) }
+    ensures line { IfOk result (λ c. c.output.text.items
+        ≡ counts_line (length topology.now) (length scripts.now) (sum_by (λ script. length script.items) scripts.now)) }
     ensures status { IfOk result (λ c. c.output.status ≡ ended.Done) }
-    ensures warned { IfOk result (λ c. c.warnings.items ≡ warnings topology.now ++ end_warning (length scripts.now) bundle.now) }
+    ensures warned { IfOk result
+        (λ c. c.warnings.items ≡ warnings topology.now ++ end_warning (length scripts.now) bundle.now) }
     ensures err { IfErr result (λ e. e ≡ fault.OutOfMemory) }
 {
     let mut warnings = warnings_of(alloc, topology)?;
@@ -132,7 +148,8 @@ fn last_line(text: &[u8]) -> &[u8]
 /// The output for this number of nodes, and for these scripts.
 fn counted(alloc: Global, nodes: usize, scripts: &[Vec<Command>]) -> Result<Output, RunFault>
     requires { AreFew scripts.now }
-    ensures line { IfOk result (λ o. o.text.items ≡ counts_line nodes (length scripts.now) (sum_by (λ script. length script.items) scripts.now)) }
+    ensures line { IfOk result (λ o. o.text.items
+        ≡ counts_line nodes (length scripts.now) (sum_by (λ script. length script.items) scripts.now)) }
     ensures status { IfOk result (λ o. o.status ≡ ended.Done) }
     ensures err { IfErr result (λ e. e ≡ fault.OutOfMemory) }
 {

@@ -2,35 +2,31 @@
 
 ghost use Rattle.std.specs.Prelude.{◌≡◌, ◌≤◌, ◌+◌, All, length, IfOk, IfErr};
 ghost use Rattle.lrc_script.specs.Scripts.{IsFirstBad};
-ghost use Rattle.lrc_outputs.specs.Judged.{lists_of, first_bad_in, shifted, AreParsed, IsJudged, IsJudgedBehind};
-ghost use Rattle.lrc_streams.specs.declared.streams.RunFault.TheVariants as fault;
+ghost use Rattle.lrc_outputs.specs.Limits.{script_limit};
+ghost use Rattle.lrc_outputs.specs.RefusedInputs.{bad_line_text, bad_line_text_behind};
+ghost use Rattle.lrc_outputs.specs.OutputErrors.{IsRefusedWith};
+ghost use Rattle.lrc_outputs.specs.Judged.{lists_of, first_bad_in, shifted, AreParsed, IsRefusalIn, IsAccepted};
 
+use crate::error::OutputError;
 use crate::limits::{BUNDLE_LIMIT, SCRIPT_LIMIT, SEQUEL_LIMIT};
-use crate::output::Output;
 use lrc_book::Command;
 use lrc_refusals::InputRefusal;
-use lrc_script::{BundleError, ScriptError, ScriptText, parse_script, split_bundle};
-use lrc_streams::RunFault;
-use lrc_topology::{Topology, TopologyError};
+use lrc_script::{ScriptError, ScriptText, parse_script, split_bundle};
+use lrc_topology::Topology;
 use std::alloc::Global;
 
-/// The result of the checks of a bundle.
+/// What a bundle has that passes all checks.
 #[derive(Drop)]
-pub(crate) enum Judged {
-    /// A check fails.
-    Refused(Output),
-    /// All checks pass.
-    Good {
-        topology: Topology,
-        /// The commands of each script.
-        scripts: Vec<Vec<Command>>,
-    },
+pub(crate) struct Accepted {
+    pub(crate) topology: Topology,
+    /// The commands of each script.
+    pub(crate) scripts: Vec<Vec<Command>>,
 }
 
 /// Checks a bundle that stands alone.
-pub(crate) fn judge(alloc: Global, bundle: &[u8]) -> Result<Judged, RunFault>
-    ensures judged { IfOk result (IsJudged bundle.now) }
-    ensures err { IfErr result (λ e. e ≡ fault.OutOfMemory) }
+pub(crate) fn judge(alloc: Global, bundle: &[u8]) -> Result<Accepted, OutputError>
+    ensures accepted { IfOk result (λ a. IsAccepted script_limit bundle.now a.topology a.scripts.items) }
+    ensures refused { IfErr result (IsRefusedWith (IsRefusalIn script_limit bad_line_text bundle.now)) }
 {
     judge_behind(alloc, bundle, SCRIPT_LIMIT, 0)
 }
@@ -41,37 +37,19 @@ pub(crate) fn judge_behind(
     bundle: &[u8],
     most: usize,
     passed: u64,
-) -> Result<Judged, RunFault>
+) -> Result<Accepted, OutputError>
     requires few { most ≤ SCRIPT_LIMIT }
     requires passed { passed ≤ SEQUEL_LIMIT }
-    ensures judged { IfOk result (IsJudgedBehind most passed bundle.now) }
-    ensures err { IfErr result (λ e. e ≡ fault.OutOfMemory) }
+    ensures accepted { IfOk result (λ a. IsAccepted most bundle.now a.topology a.scripts.items) }
+    ensures refused { IfErr result (IsRefusedWith (IsRefusalIn most (bad_line_text_behind passed) bundle.now)) }
 {
     if bundle.len() > BUNDLE_LIMIT {
-        return Ok(Judged::Refused(Output::refused(alloc, InputRefusal::TooLong)?));
+        return Err(OutputError::Refused(InputRefusal::TooLong));
     }
-    let parts = match split_bundle(alloc, bundle, most) {
-        Ok(parts) => parts,
-        Err(BundleError::TooManyScripts) => {
-            return Ok(Judged::Refused(Output::refused(alloc, InputRefusal::TooManyScripts)?));
-        }
-        Err(BundleError::OutOfMemory) => return Err(RunFault::OutOfMemory),
-    };
-    let topology = match Topology::read(alloc, parts.topology) {
-        Ok(topology) => topology,
-        Err(TopologyError::OutOfMemory) => return Err(RunFault::OutOfMemory),
-        Err(error) => {
-            return Ok(Judged::Refused(Output::refused(alloc, InputRefusal::Topology(error))?));
-        }
-    };
-    match parse_scripts(alloc, parts.scripts.as_slice(), passed) {
-        Ok(scripts) => Ok(Judged::Good { topology, scripts }),
-        Err(ScriptError::Bad { line, cause }) => {
-            let bad_line = Output::refused(alloc, InputRefusal::Line(line, cause))?;
-            Ok(Judged::Refused(bad_line))
-        }
-        Err(ScriptError::OutOfMemory) => Err(RunFault::OutOfMemory),
-    }
+    let parts = split_bundle(alloc, bundle, most)?;
+    let topology = Topology::read(alloc, parts.topology)?;
+    let scripts = parse_scripts(alloc, parts.scripts.as_slice(), passed)?;
+    Ok(Accepted { topology, scripts })
 }
 
 /// Returns the commands of each script, if none has a bad line. Lines are counted behind `passed` others.

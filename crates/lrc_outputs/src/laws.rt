@@ -54,7 +54,8 @@ pub fn counted_commands()
 
 /// Each sequel has an output for each goal.
 pub fn some_sequel_output()
-    ensures { (goal : Goal) (sequel : List ℕ) → (text : List ℕ) × (status : Status) × IsSequelOutput goal sequel text status }
+    ensures { (goal : Goal) (sequel : List ℕ)
+        → (text : List ℕ) × (status : Status) × IsSequelOutput goal sequel text status }
 {}
 
 /// Each sequel has one output for each goal.

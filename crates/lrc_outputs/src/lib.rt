@@ -3,6 +3,7 @@
 
 mod begin;
 mod checking;
+mod error;
 mod forecasting;
 mod judging;
 pub mod laws;

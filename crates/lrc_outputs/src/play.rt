@@ -37,7 +37,8 @@ pub(crate) fn play(
     play_on(alloc, &mut book, scripts, room)
 }
 
-/// Runs the only script, if there is one, on a book without entries, and returns the output: the replies and both tables.
+/// Runs the only script, if there is one, on a book without entries, and returns the output: the replies and both
+/// tables.
 pub(crate) fn play_on(
     alloc: Global,
     book: &mut Book,
@@ -48,7 +49,8 @@ pub(crate) fn play_on(
     requires few { AreFew scripts.now }
     requires alone { length scripts.now ≤ 1 }
     requires empty { room.items ≡ [] }
-    ensures played { IfOk result (λ text. IsPlayedFrom book.old.nodes book.old.base book.old.before (lists_of scripts.now) text.items) }
+    ensures played { IfOk result
+        (λ text. IsPlayedFrom book.old.nodes book.old.base book.old.before (lists_of scripts.now) text.items) }
     ensures err { IfErr result (λ e. e ≡ fault.OutOfMemory) }
 {
     let replies = play_scripts(book, scripts, room)?;
@@ -66,7 +68,8 @@ fn play_scripts(
     requires few { AreFew scripts.now }
     requires alone { length scripts.now ≤ 1 }
     requires empty { room.items ≡ [] }
-    ensures made { IfOk result (λ text. AreMadeFrom book.old.nodes book.old.base book.old.before (lists_of scripts.now) book.new.history text.items) }
+    ensures made { IfOk result (λ text. AreMadeFrom book.old.nodes book.old.base book.old.before (lists_of scripts.now)
+        book.new.history text.items) }
     ensures same { OnOk result ((book.new.nodes ≡ book.old.nodes) × (book.new.base ≡ book.old.base)) }
     ensures err { IfErr result (λ e. e ≡ fault.OutOfMemory) }
 {
@@ -82,7 +85,8 @@ fn play_alone(book: &mut Book, commands: &[Command], empty: Vec<u8>) -> Result<V
     // The history has room for them.
     requires few { length commands.now ≤ HISTORY_LIMIT }
     requires empty { empty.items ≡ [] }
-    ensures made { IfOk result (λ text. AreMadeFrom book.old.nodes book.old.base book.old.before (commands.now ∷ []) book.new.history text.items) }
+    ensures made { IfOk result (λ text. AreMadeFrom book.old.nodes book.old.base book.old.before (commands.now ∷ [])
+        book.new.history text.items) }
     ensures same { OnOk result ((book.new.nodes ≡ book.old.nodes) × (book.new.base ≡ book.old.base)) }
     ensures err { IfErr result (λ e. e ≡ fault.OutOfMemory) }
 {
@@ -109,7 +113,8 @@ pub(crate) fn make_scripts(book: &mut Book, scripts: &[Vec<Command>]) -> Result<
     ensures legal { OnOk result (IsLegalFrom book.old.nodes book.old.base book.new.history) }
     ensures made { OnOk result (commands_of_each (length scripts.now) book.new.history ≡ lists_of scripts.now) }
     ensures only { OnOk result (All (λ e. e.session.value ≤ length scripts.now) book.new.history) }
-    ensures same { OnOk result ((book.new.nodes ≡ book.old.nodes) × (book.new.base ≡ book.old.base) × (book.new.before ≡ book.old.before)) }
+    ensures same { OnOk result ((book.new.nodes ≡ book.old.nodes) × (book.new.base ≡ book.old.base)
+        × (book.new.before ≡ book.old.before)) }
     ensures err { IfErr result (λ e. e ≡ fault.OutOfMemory) }
 {
     match scripts {
@@ -126,7 +131,8 @@ fn make_alone(book: &mut Book, commands: &[Command]) -> Result<(), RunFault>
     ensures legal { OnOk result (IsLegalFrom book.old.nodes book.old.base book.new.history) }
     ensures made { OnOk result (commands_of_each 1 book.new.history ≡ commands.now ∷ []) }
     ensures only { OnOk result (All (λ e. e.session.value ≤ 1) book.new.history) }
-    ensures same { OnOk result ((book.new.nodes ≡ book.old.nodes) × (book.new.base ≡ book.old.base) × (book.new.before ≡ book.old.before)) }
+    ensures same { OnOk result ((book.new.nodes ≡ book.old.nodes) × (book.new.base ≡ book.old.base)
+        × (book.new.before ≡ book.old.before)) }
     ensures err { IfErr result (λ e. e ≡ fault.OutOfMemory) }
 {
     let only = SessionNo::new(1).unwrap();
@@ -140,8 +146,10 @@ fn make_all(book: &mut Book, session: SessionNo, commands: &[Command]) -> Result
     // The history has room for them.
     requires few { length book.old.history + length commands.now ≤ book.old.limit }
     ensures made { OnOk result (AreMadeBehind book.old.history session commands.now book.new.history) }
-    ensures legal { OnOk result (IsLegalFrom book.old.nodes book.old.base book.old.history → IsLegalFrom book.old.nodes book.old.base book.new.history) }
-    ensures same { OnOk result ((book.new.nodes ≡ book.old.nodes) × (book.new.limit ≡ book.old.limit) × (book.new.base ≡ book.old.base) × (book.new.before ≡ book.old.before)) }
+    ensures legal { OnOk result (IsLegalFrom book.old.nodes book.old.base book.old.history
+        → IsLegalFrom book.old.nodes book.old.base book.new.history) }
+    ensures same { OnOk result ((book.new.nodes ≡ book.old.nodes) × (book.new.limit ≡ book.old.limit)
+        × (book.new.base ≡ book.old.base) × (book.new.before ≡ book.old.before)) }
     ensures err { IfErr result (λ e. e ≡ fault.OutOfMemory) }
 {
     for command in commands.iter() {

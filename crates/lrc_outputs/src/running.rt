@@ -2,10 +2,13 @@
 
 ghost use Rattle.std.specs.Prelude.{◌≡◌, ◌⊎◌, ◌<◌, [], length, IfOk, IfErr};
 ghost use Rattle.lrc_outputs.specs.Judged.{lists_of, AreFew};
+ghost use Rattle.lrc_outputs.specs.OutputErrors.{IsStopped};
+ghost use Rattle.lrc_outputs.specs.declared.status.Status.TheVariants as ended;
 ghost use Rattle.lrc_outputs.specs.Outputs.{RunsSeveral, IsPlayed, IsOutput};
 ghost use Rattle.lrc_streams.specs.declared.streams.RunFault.TheVariants as fault;
 
-use crate::judging::{Judged, judge};
+use crate::error::OutputError;
+use crate::judging::judge;
 use crate::output::Output;
 use crate::play::play;
 use crate::together::play_together;
@@ -20,8 +23,8 @@ use std::thread::Threads;
 ///
 /// # Errors
 ///
-/// `OutOfMemory`; `NoReader` if the bundle passes all checks and has two scripts or more, and a session gets no reader of the
-/// published view.
+/// `OutOfMemory`; `NoReader` if the bundle passes all checks and has two scripts or more, and a session gets no reader
+/// of the published view.
 pub fn output_of<T: Threads + Wait + Sync>(
     rt: &T,
     alloc: Global,
@@ -30,14 +33,32 @@ pub fn output_of<T: Threads + Wait + Sync>(
     ensures output { IfOk result (λ o. IsOutput bundle.items (o.text.items) o.status) }
     ensures err { IfErr result (λ e. (e ≡ fault.OutOfMemory) ⊎ ((e ≡ fault.NoReader) × RunsSeveral bundle.items)) }
 {
-    match judge(alloc, bundle.as_slice())? {
-        Judged::Refused(output) => Ok(output),
-        Judged::Good { topology, scripts } => {
-            let room = emptied(bundle);
-            let text = play_all(rt, alloc, topology, scripts.as_slice(), room)?;
-            Ok(Output::done(text))
-        }
+    match run_bundle(rt, alloc, bundle) {
+        Ok(text) => Ok(Output::done(text)),
+        Err(error) => error.into_output(alloc),
     }
+}
+
+/// Runs the scripts of a bundle that passes all checks, and returns the text of the output.
+fn run_bundle<T: Threads + Wait + Sync>(
+    rt: &T,
+    alloc: Global,
+    bundle: Vec<u8>,
+) -> Result<Vec<u8>, OutputError>
+    ensures output { IfOk result (λ text. IsOutput bundle.items text.items ended.Done) }
+    ensures refused { IfErr result (IsStopped (IsOutput bundle.items)
+        (λ f. (f ≡ fault.OutOfMemory) ⊎ ((f ≡ fault.NoReader) × RunsSeveral bundle.items))) }
+{
+    let accepted = judge(alloc, bundle.as_slice())?;
+    let room = emptied(bundle);
+    let text = play_all(
+        rt,
+        alloc,
+        accepted.topology,
+        accepted.scripts.as_slice(),
+        room,
+    )?;
+    Ok(text)
 }
 
 /// Removes all bytes, and keeps their memory.

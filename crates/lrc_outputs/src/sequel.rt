@@ -3,10 +3,12 @@
 ghost use Rattle.std.specs.Prelude.{◌≡◌, ◌≤◌, [], length, IfOk, IfErr};
 ghost use Rattle.lrc_images.specs.Causes.{most_entries};
 ghost use Rattle.lrc_outputs.specs.Judged.{lists_of, AreFew};
+ghost use Rattle.lrc_outputs.specs.OutputErrors.{IsRefusedWith};
 ghost use Rattle.lrc_outputs.specs.Sequels.{IsImaged, IsReached, IsSequelOutput};
 ghost use Rattle.lrc_streams.specs.declared.streams.RunFault.TheVariants as fault;
 
-use crate::begin::{Begun, begin};
+use crate::begin::begin;
+use crate::error::OutputError;
 use crate::forecasting::forecast_after;
 use crate::output::Output;
 use crate::play::{make_scripts, play_on};
@@ -14,7 +16,7 @@ use lrc_book::{Book, Command, HISTORY_LIMIT};
 use lrc_code::Fault;
 use lrc_forecast::Outage;
 use lrc_groups::Named;
-use lrc_image_text::push_image;
+use lrc_openings::image_text;
 use lrc_refusals::InputRefusal;
 use lrc_show::{View, shown};
 use lrc_streams::RunFault;
@@ -42,10 +44,19 @@ pub fn sequel_output(alloc: Global, goal: Goal<'_>, sequel: &[u8]) -> Result<Out
     ensures output { IfOk result (λ o. IsSequelOutput goal.entry sequel.now (o.text.items) o.status) }
     ensures err { IfErr result (λ e. e ≡ fault.OutOfMemory) }
 {
-    match begin(alloc, sequel)? {
-        Begun::Refused(output) => Ok(output),
-        Begun::Good { mut book, scripts } => reach(alloc, goal, &mut book, scripts.as_slice()),
+    match run_sequel(alloc, goal, sequel) {
+        Ok(output) => Ok(output),
+        Err(error) => error.into_output(alloc),
     }
+}
+
+/// Runs the script of a sequel that passes all checks, and returns the output.
+fn run_sequel(alloc: Global, goal: Goal<'_>, sequel: &[u8]) -> Result<Output, OutputError>
+    ensures output { IfOk result (λ o. IsSequelOutput goal.entry sequel.now o.text.items o.status) }
+    ensures refused { IfErr result (IsRefusedWith (IsSequelOutput goal.entry sequel.now)) }
+{
+    let mut begun = begin(alloc, sequel)?;
+    reach(alloc, goal, &mut begun.book, begun.scripts.as_slice())
 }
 
 /// The output for the only script, if there is one, on a book without entries.
@@ -54,12 +65,14 @@ fn reach(
     goal: Goal<'_>,
     book: &mut Book,
     scripts: &[Vec<Command>],
-) -> Result<Output, RunFault>
+) -> Result<Output, OutputError>
     requires fresh { (book.old.history ≡ []) × (book.old.limit ≡ HISTORY_LIMIT) × (book.old.before ≤ most_entries) }
     requires few { AreFew scripts.now }
     requires alone { length scripts.now ≤ 1 }
-    ensures output { IfOk result (λ o. IsReached goal.entry book.old.nodes book.old.base book.old.before (lists_of scripts.now) (o.text.items) o.status) }
-    ensures err { IfErr result (λ e. e ≡ fault.OutOfMemory) }
+    ensures output { IfOk result (λ o. IsReached goal.entry book.old.nodes book.old.base book.old.before
+        (lists_of scripts.now) o.text.items o.status) }
+    ensures refused { IfErr result (IsRefusedWith (IsReached goal.entry book.old.nodes book.old.base book.old.before
+        (lists_of scripts.now))) }
 {
     match goal {
         Goal::Replies => {
@@ -80,17 +93,13 @@ fn reach(
 }
 
 /// The output with the image of a book's state.
-fn image_output(alloc: Global, book: &Book) -> Result<Output, RunFault>
-    ensures output { IfOk result (λ o. IsImaged book.now (o.text.items) o.status) }
-    ensures err { IfErr result (λ e. e ≡ fault.OutOfMemory) }
+fn image_output(alloc: Global, book: &Book) -> Result<Output, OutputError>
+    ensures output { IfOk result (λ o. IsImaged book.now o.text.items o.status) }
+    ensures refused { IfErr result (IsRefusedWith (IsImaged book.now)) }
 {
-    match book.image(alloc) {
-        Ok(image) => {
-            let mut text = Vec::new(alloc);
-            push_image(&mut text, &image)?;
-            Ok(Output::done(text))
-        }
-        Err(Fault::HistoryFull) => Output::refused(alloc, InputRefusal::FullImage),
-        Err(Fault::OutOfMemory) => Err(RunFault::OutOfMemory),
+    match image_text(alloc, book) {
+        Ok(text) => Ok(Output::done(text)),
+        Err(Fault::HistoryFull) => Err(OutputError::Refused(InputRefusal::FullImage)),
+        Err(Fault::OutOfMemory) => Err(OutputError::Fault(RunFault::OutOfMemory)),
     }
 }

@@ -1,6 +1,7 @@
 //! Running several scripts at once, each by its own session.
 
-ghost use Rattle.std.specs.Prelude.{◌≡◌, ◌≢◌, ◌<◌, ◌≤◌, ◌⊎◌, ◌++◌, length, sum_by, All, Some, None, option_map, IfOk, OnOk, IfErr};
+ghost use Rattle.std.specs.Prelude.{◌≡◌, ◌≢◌, ◌<◌, ◌≤◌, ◌⊎◌, ◌++◌, length, sum_by, All};
+ghost use Rattle.std.specs.Prelude.{Some, None, option_map, IfOk, OnOk, IfErr};
 ghost use Rattle.lrc_code.specs.declared.fault.Fault.TheVariants as book;
 ghost use Rattle.lrc_rules.specs.Histories.{first_world};
 ghost use Rattle.lrc_streams.specs.Faults.{run_fault};
@@ -30,7 +31,8 @@ struct Played {
     tracks: Vec<Track>,
 }
 
-/// Runs two to eight scripts on a new book, each by its own session, and returns the output: the replies and both tables.
+/// Runs two to eight scripts on a new book, each by its own session, and returns the output: the replies and both
+/// tables.
 pub(crate) fn play_together<T: Threads + Wait + Sync>(
     rt: &T,
     alloc: Global,
@@ -70,7 +72,8 @@ fn run_each<N: Naming + Send + Sync, T: Threads + Wait + Sync>(
     ensures nodes { IfOk result (λ p. p.book.nodes ≡ parts.topology) }
     ensures base { IfOk result (λ p. p.book.base ≡ first_world) }
     ensures tracks { IfOk result (λ p. length p.tracks.items ≤ 8) }
-    ensures made { IfOk result (λ p. AreMade parts.topology (lists_of scripts.now) p.book.history (tracks_text 1 p.tracks.items)) }
+    ensures made { IfOk result
+        (λ p. AreMade parts.topology (lists_of scripts.now) p.book.history (tracks_text 1 p.tracks.items)) }
     ensures err { IfErr result (λ e. (e ≡ fault.OutOfMemory) ⊎ (e ≡ fault.NoReader)) }
 {
     let (manager, sessions) = match Manager::<N>::open(alloc, rt, parts) {
@@ -88,7 +91,8 @@ fn run_each<N: Naming + Send + Sync, T: Threads + Wait + Sync>(
     }
 }
 
-/// Returns the tracks if no fault stopped a script; else the fault that stopped the first of those, which is `OutOfMemory`.
+/// Returns the tracks if no fault stopped a script; else the fault that stopped the first of those, which is
+/// `OutOfMemory`.
 fn unstopped(tracks: Vec<Track>) -> Result<Vec<Track>, RunFault>
     // No script met a full history.
     requires room { All (λ track. stop_fault track.stopped ≢ Some book.HistoryFull) tracks.items }

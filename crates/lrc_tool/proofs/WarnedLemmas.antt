@@ -10,7 +10,7 @@ use Rattle.lrc_outputs.specs.declared.status.Status.TheVariants as ended
 use Rattle.lrc_outputs.specs.Limits.{sequel_limit}
 use Rattle.lrc_outputs.specs.Outputs.{run_judging, IsAnsweredUnless}
 use Rattle.lrc_outputs.specs.Sequels.{has_image, IsToldUnless}
-use Rattle.lrc_outputs.specs.Checks.{AreCounted, counting, IsCheckIn, IsCheck, IsWarned}
+use Rattle.lrc_outputs.specs.Checks.{IsCountedLine, counting, IsCheckIn, IsCheck, IsWarned}
 use Rattle.lrc_tool.specs.Sinks.{WritesWarnings}
 use Rattle.lrc_tool.proofs.ReadLemmas.{TellsAlike, too_long, told_to_read}
 
@@ -23,12 +23,12 @@ IsTooLong text status = (text ≡ codes "bundle 1\n") × (status ≡ ended.Refus
 long_told : (is : Bool) (input text : List ℕ) (status : Status) → sequel_limit < length input → IsCheckIn is input text status → IsTooLong text status
 long_told true input text status long h = subst (λ (b : Bool). IsToldUnless counting b input text status) (lt-ltb sequel_limit (length input) long) h
 long_told false input text status long h =
-    subst (λ (o : Option (List ℕ)). IsAnsweredUnless (run_judging AreCounted) o input text status) (too_long input (omega (arith, long))) h
+    subst (λ (o : Option (List ℕ)). IsAnsweredUnless (run_judging IsCountedLine) o input text status) (too_long input (omega (arith, long))) h
 
 told_long : (is : Bool) (input text : List ℕ) (status : Status) → sequel_limit < length input → IsTooLong text status → IsCheckIn is input text status
 told_long true input text status long h = subst (λ (b : Bool). IsToldUnless counting b input text status) (sym (lt-ltb sequel_limit (length input) long)) h
 told_long false input text status long h =
-    subst (λ (o : Option (List ℕ)). IsAnsweredUnless (run_judging AreCounted) o input text status) (sym (too_long input (omega (arith, long)))) h
+    subst (λ (o : Option (List ℕ)). IsAnsweredUnless (run_judging IsCountedLine) o input text status) (sym (too_long input (omega (arith, long)))) h
 
 pub checked_alike : TellsAlike sequel_limit IsCheck
 checked_alike a b text status p q h = told_long (has_image b) b text status q (long_told (has_image a) a text status p h)

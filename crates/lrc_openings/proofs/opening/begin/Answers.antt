@@ -1,33 +1,19 @@
-use Rattle.std.proofs.Common.{refl, arith}
-use Rattle.lrc_images.proofs.CutLemmas.{within_rows}
+use Rattle.lrc_openings.proofs.ResultLemmas.{IfOk-map, IfErr-map}
+use Rattle.lrc_openings.proofs.OpeningLemmas.{begun_in_texts, unopened_texts}
 use Rattle.lrc_openings.proofs.opening.begin.Goals as goal
 
-pub line_of-requires : goal.line_of-requires
-line_of-requires c =
-    let first = rw c.in-Err-Refused.field-0-is at c.in-Err-Refused.ensures.refused in
-    let within = within_rows c.in_ok-topology.topology c.in_ok-image.image c.in-Err-Refused.position c.in-Err-Refused.cause first in
-    omega (arith, c.upgrading_in-upgrading.ensures.room, within)
+pub returns-clause-begun : goal.returns-clause-begun
+returns-clause-begun c =
+    let nodes = c.in_ok-topology in
+    let image = c.in_ok-image in
+    IfOk-map c.begin_over.result _ _
+    (λ b. begun_in_texts c.args.nodes.now c.args.text.now nodes.topology image.image nodes.ensures.ok image.ensures.read b.value)
+    c.begin_over.ensures.begun
 
-pub returns-in-Ok-clause-begun : goal.returns-in-Ok-clause-begun
-returns-in-Ok-clause-begun c =
-    let value = c.in-Ok.ensures.value in record {
-      image = c.in_ok-image.image;
-      nodes_are = rw value.0 c.in_ok-topology.ensures.ok;
-      text_is = c.in_ok-image.ensures.read;
-      lawful = rw value.0 (c.in-Ok.ensures.lawful refl);
-      base_is = value.3;
-      before_is = value.4;
-      empty = value.2;
-      limit_is = value.1;
-    }
-
-pub returns-in-Err-Refused-clause-refused : goal.returns-in-Err-Refused-clause-refused
-returns-in-Err-Refused-clause-refused c = record {
-  topology = c.in_ok-topology.topology;
-  image = c.in_ok-image.image;
-  position = c.in-Err-Refused.position;
-  nodes_are = c.in_ok-topology.ensures.ok;
-  text_is = c.in_ok-image.ensures.read;
-  first = rw c.in-Err-Refused.field-0-is at c.in-Err-Refused.ensures.refused;
-  line_is = rw (← c.upgrading_in-upgrading.ensures.value) c.line_of.ensures;
-}
+pub returns-clause-refused : goal.returns-clause-refused
+returns-clause-refused c =
+    let nodes = c.in_ok-topology in
+    let image = c.in_ok-image in
+    IfErr-map c.begin_over.result _ _
+    (unopened_texts c.args.nodes.now c.args.text.now nodes.topology image.image nodes.ensures.ok image.ensures.read)
+    c.begin_over.ensures.refused

@@ -1,44 +1,32 @@
-use Rattle.std.proofs.Common.{ℕ, List, subst, sym, ◌∙◌, length}
+use Rattle.std.proofs.Common.{◌∙◌, length}
+use Rattle.std.proofs.lemmas.Result.{err_from_is_err_and}
 use Rattle.lrc_script.specs.Bundles.{scripts_of}
-use Rattle.lrc_warnings.specs.Warnings.{warnings}
-use Rattle.lrc_outputs.specs.declared.judging.Judged.TheVariants.{Refused, Good}
-use Rattle.lrc_outputs.specs.Judged.{IsJudged}
-use Rattle.lrc_outputs.specs.Checks.{AreCounted, IsWarned}
-use Rattle.lrc_outputs.proofs.JudgedLemmas.{IfOk-both, good_to_any}
-use Rattle.lrc_outputs.proofs.CheckLemmas.{all_counted, check_alone, refused_alone, refused_unwarned, accepted_warned}
+use Rattle.lrc_outputs.specs.Checks.{IsCountedLine}
+use Rattle.lrc_outputs.proofs.JudgedLemmas.{good_to_any}
+use Rattle.lrc_outputs.proofs.CheckLemmas.{all_counted, check_alone, bundle_check_refused, accepted_warned}
 use Rattle.lrc_outputs.proofs.checking.check_bundle.Goals as goal
 
-pub returns-in-Good-clause-line : goal.returns-in-Good-clause-line
-returns-in-Good-clause-line c =
-    let bundle = c.args.bundle.now in
-    let topology = c.in-Good.topology in
-    let scripts = c.in-Good.scripts.items in
-    let good : IsJudged bundle (Good topology c.in-Good.scripts) = rw c.in-Good.is at c.in_ok-output.ensures.judged in
-    IfOk-both c.passed.result _ _ _
-    (λ o line end. check_alone bundle (o.output.text.items) o.output.status c.requires (good_to_any AreCounted bundle (o.output.text.items) o.output.status topology scripts good
-    ((rw c.as_slice.ensures.value at line) ∙ all_counted (length topology) (scripts_of bundle) scripts good.commands) end))
-    c.passed.ensures.line c.passed.ensures.status
+pub returns-in_err-accepted-clause-refused : goal.returns-in_err-accepted-clause-refused
+returns-in_err-accepted-clause-refused c =
+    let p = err_from_is_err_and c.from_residual.result c.from_residual.ensures.1 in
+    rw (p.1, p.2) (bundle_check_refused c.args.bundle.now c.requires c.in_err-accepted.field-0.0 c.in_err-accepted.ensures.refused)
 
-pub returns-in-Good-clause-warned : goal.returns-in-Good-clause-warned
-returns-in-Good-clause-warned c =
+pub returns-clause-line : goal.returns-clause-line
+returns-clause-line c =
     let bundle = c.args.bundle.now in
-    let topology = c.in-Good.topology in
-    let scripts = c.in-Good.scripts.items in
-    let good : IsJudged bundle (Good topology c.in-Good.scripts) = rw c.in-Good.is at c.in_ok-output.ensures.judged in
-    IfOk-both c.passed.result _ _ _
-    (λ o warned end. accepted_warned bundle (o.warnings.items) o.output.status topology scripts c.requires good (rw c.as_slice.ensures.value at warned) end)
-    c.passed.ensures.warned c.passed.ensures.status
+    let accepted = c.in_ok-accepted.accepted in
+    let scripts = accepted.scripts.items in
+    let good = c.in_ok-accepted.ensures.accepted in
+    let checked = c.in_ok-checked in
+    let output = checked.checked.output in
+    let line = (rw c.as_slice.ensures.value at checked.ensures.line) ∙ all_counted (length accepted.topology) (scripts_of bundle) scripts good.commands in
+    check_alone bundle (output.text.items) output.status c.requires
+    (good_to_any IsCountedLine bundle (output.text.items) output.status accepted.topology scripts good line checked.ensures.status)
 
-pub returns-in-Refused-clause-line : goal.returns-in-Refused-clause-line
-returns-in-Refused-clause-line c =
-    let bundle = c.args.bundle.now in
-    let output = c.in-Refused.output in
-    let refused : IsJudged bundle (Refused output) = rw c.in-Refused.is at c.in_ok-output.ensures.judged in
-    check_alone bundle (output.text.items) output.status c.requires (refused_alone bundle (output.text.items) output.status refused)
-
-pub returns-in-Refused-clause-warned : goal.returns-in-Refused-clause-warned
-returns-in-Refused-clause-warned c =
-    let bundle = c.args.bundle.now in
-    let output = c.in-Refused.output in
-    let refused : IsJudged bundle (Refused output) = rw c.in-Refused.is at c.in_ok-output.ensures.judged in
-    subst (λ (text : List ℕ). IsWarned bundle text output.status) (sym c.new.ensures.items) (refused_unwarned bundle (output.text.items) output.status refused)
+pub returns-clause-warned : goal.returns-clause-warned
+returns-clause-warned c =
+    let accepted = c.in_ok-accepted.accepted in
+    let checked = c.in_ok-checked in
+    let warned = rw c.as_slice.ensures.value at checked.ensures.warned in
+    accepted_warned c.args.bundle.now (checked.checked.warnings.items) checked.checked.output.status accepted.topology accepted.scripts.items c.requires c.in_ok-accepted.ensures.accepted
+    warned checked.ensures.status
