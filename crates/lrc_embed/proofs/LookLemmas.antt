@@ -16,8 +16,7 @@ look_by {old = old} {after = after} inside says l = record {
   done = λ e. of_by old (λ b. says b (Some after)) (l.done e);
   unknown = λ e. of_by old (λ b. says b None) (l.unknown e);
   closed = l.closed;
-  range = λ e. absurd (l.range e);
-  range_first = λ o. absurd (inside o);
+  range = (λ e. absurd (l.range.0 e), λ o. absurd (inside o));
   statuses = l.statuses;
   unwritten = l.unwritten;
 }

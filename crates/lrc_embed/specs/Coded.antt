@@ -14,8 +14,10 @@ IsUneven code sources parities = (f : Fragment) × IsEncodeRefusal code sources 
 
 -- no code of this number has all the fragments with a coefficient other than 0
 abbrev pub IsOfNoCode : ℕ → List ℕ → Type 0
-IsOfNoCode number coefficients = (code : Code) → encoded_code code ≡ number → (f : ℕ) × (fragment_count code ≤ f) × (each_of coefficients f ≢ 0)
+IsOfNoCode number coefficients =
+    (code : Code) → encoded_code code ≡ number → (f : ℕ) × (fragment_count code ≤ f) × (each_of coefficients f ≢ 0)
 
 -- a fragment that is read has another length than the result
 abbrev pub IsReadUneven : Code → List ℕ → List (List ℕ) → ℕ → Type 0
-IsReadUneven code coefficients fragments long = (f : Fragment) × IsRebuildRefusal code coefficients fragments long (Length f)
+IsReadUneven code coefficients fragments long =
+    (f : Fragment) × IsRebuildRefusal code coefficients fragments long (Length f)

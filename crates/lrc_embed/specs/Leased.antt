@@ -16,7 +16,8 @@ use Rattle.lrc_embed.specs.Recipes.{IsDetermined}
 abbrev pub Leased : BookView → StripeNo → Fragment → (Code → LossMask → Type 0) → Type 0
 Leased b s f P =
     (is_some (lease_of (state_of b) s f) ≡ true)
-    × (code : Code) × (missing : LossMask) × (code_shown (state_of b) s ≡ Some code) × (missing_shown b.nodes (state_of b) s ≡ Some missing) × P code missing
+    × (code : Code) × (missing : LossMask) × (code_shown (state_of b) s ≡ Some code)
+    × (missing_shown b.nodes (state_of b) s ≡ Some missing) × P code missing
 
 -- the recipe is that of the fragment where now fragments are missing
 abbrev pub HasRecipe : BookView → LrcRecipe → StripeNo → Fragment → Type 0
@@ -24,7 +25,8 @@ HasRecipe b r s f = Leased b s f (λ code missing. IsRecipeOf code (bits_set mis
 
 -- what is not missing does not determine the fragment
 abbrev pub HasNone : BookView → StripeNo → Fragment → Type 0
-HasNone b s f = Leased b s f (λ code missing. ¬ ((f.value < fragment_count code) × IsDetermined code missing.bits f.value))
+HasNone b s f =
+    Leased b s f (λ code missing. ¬ ((f.value < fragment_count code) × IsDetermined code missing.bits f.value))
 
 -- there is no such stripe, or no live lease of the fragment
 abbrev pub HasNoLease : BookView → StripeNo → Fragment → Type 0

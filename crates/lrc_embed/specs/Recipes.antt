@@ -25,4 +25,6 @@ IsDetermined code missing f = Determines code (outside (bits_set missing)) f
 
 -- the buffer starts with the generator matrix, and is as it was after it
 abbrev pub HasMatrix : Code → List ℕ → List ℕ → Type 0
-HasMatrix code before after = (matrix : List ℕ) × IsMatrix code matrix × (after ≡ take (matrix_count code) matrix ++ drop (matrix_count code) before)
+HasMatrix code before after =
+    (matrix : List ℕ) × IsMatrix code matrix
+    × (after ≡ take (matrix_count code) matrix ++ drop (matrix_count code) before)

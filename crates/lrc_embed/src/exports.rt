@@ -1,6 +1,6 @@
-//! The functions that C calls. Each returns a status, and writes its result only if that is 0. With another status
-//! `lrc_embed_open`, `lrc_embed_open_image` and `lrc_embed_replay` may write where a text or an entry was refused. With 7,
-//! which tells that a buffer is too short, the room that is needed is written, and `lrc_embed_forecast` writes `safe` too.
+//! The functions that C calls. Each returns a status, and writes its result only if that is `DONE`. With another status
+//! `lrc_embed_open`, `lrc_embed_open_image` and `lrc_embed_replay` may write where a text or an entry was refused. With
+//! `SHORT` the room that is needed is written, and `lrc_embed_forecast` writes `safe` too.
 
 mod call;
 mod coding;

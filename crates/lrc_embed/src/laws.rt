@@ -11,10 +11,11 @@ ghost use Rattle.lrc_coder.specs.Coding.{IsRebuilt};
 ghost use Rattle.lrc_records.specs.Recipes.{IsRecipeOf};
 ghost use Rattle.lrc_records.specs.declared.recipe.LrcRecipe.{LrcRecipe as AnyRecipe};
 
-/// What is rebuilt by the recipe of a fragment is that fragment, missing or not: where the bytes that are read are a stripe's,
-/// the byte that is written is the stripe's too.
+/// What is rebuilt by the recipe of a fragment is that fragment, missing or not: where the bytes that are read are a
+/// stripe's, the byte that is written is the stripe's too.
 pub fn recipes_rebuild_their_fragment()
-    ensures { (code : Code) (missing : FragmentSet) (f : Fragment) (r : AnyRecipe) (fragments : List (List ℕ)) (before after : List ℕ) (i : ℕ) (v : Bytes) →
+    ensures { (code : Code) (missing : FragmentSet) (f : Fragment) (r : AnyRecipe)
+        (fragments : List (List ℕ)) (before after : List ℕ) (i : ℕ) (v : Bytes) →
         IsRecipeOf code missing f r → IsRebuilt code r.coefficients fragments before after → IsStripe code v →
         ((g : ℕ) → IsTrue (read_by (each_of r.coefficients) g) → bytes_at fragments i g ≡ v g) → i < length before →
         get_or after i 0 ≡ v f.value }

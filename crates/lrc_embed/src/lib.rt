@@ -7,7 +7,7 @@ mod handle;
 pub mod laws;
 mod loose;
 mod owned;
-mod status;
+pub mod status;
 
 pub use handle::LrcHandle;
 pub use owned::OwnedBook;

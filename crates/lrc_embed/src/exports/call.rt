@@ -1,8 +1,8 @@
-ghost use Rattle.std.specs.Prelude.{◌≡◌, ◌≢◌, ◌↔◌, ◌⊎◌, ◌++◌, ◌∷◌, [], false, List, Some, None, length};
+ghost use Rattle.std.specs.Prelude.{◌≡◌, ◌≢◌, ◌↔◌, ◌++◌, ◌∷◌, [], List, Some, None, length};
 ghost use Rattle.lrc_rules.specs.declared.entry.Entry.{Entry};
-ghost use Rattle.lrc_records.specs.Commands.{is_command};
 ghost use Rattle.lrc_records.specs.Replies.{encoded_reply};
-ghost use Rattle.lrc_embed.specs.Calls.{Of, contents, IsCall, IsStepOf, IsPeek, IsReplyOf, IsOutside};
+ghost use Rattle.lrc_embed.specs.Calls.{Of, contents, IsCall, IsStepOf, IsPeek, IsReplyOf, IsNoCall};
+ghost use Rattle.lrc_embed.specs.Statuses.{IsOneOf};
 
 use crate::LrcHandle;
 use crate::status::{DONE, FULL, IS_CLOSED, OUT_OF_MEMORY, OUT_OF_RANGE};
@@ -20,15 +20,16 @@ pub extern "C" fn lrc_embed_call(
     command: &LrcCommand,
     reply: &mut LrcReply,
 ) -> u32
-    ensures done { (result ≡ 0) → Of handle.old.owned.book (λ b. Of handle.new.owned.book (IsCall session command.now reply.new b)) }
-    ensures unchanged { (result ≢ 0) → contents handle.new.owned.book ≡ contents handle.old.owned.book }
-    ensures full { (result ≢ 1) → (result ≢ 3) → Of handle.old.owned.book (λ b. (result ≡ 5) ↔ (length b.history ≡ b.limit)) }
-    ensures closed { (result ≡ 1) → handle.old.owned.book ≡ None }
-    ensures range { (result ≡ 3) → IsOutside session ⊎ (is_command command.now ≡ false) }
+    ensures done { (result ≡ DONE)
+        → Of handle.old.owned.book (λ b. Of handle.new.owned.book (IsCall session command.now reply.new b)) }
+    ensures unchanged { (result ≢ DONE) → contents handle.new.owned.book ≡ contents handle.old.owned.book }
+    ensures full { (result ≢ IS_CLOSED) → (result ≢ OUT_OF_RANGE)
+        → Of handle.old.owned.book (λ b. (result ≡ FULL) ↔ (length b.history ≡ b.limit)) }
+    ensures closed { (result ≡ IS_CLOSED) → handle.old.owned.book ≡ None }
     // A closed handle returns this too.
-    ensures range_first { IsOutside session ⊎ (is_command command.now ≡ false) → result ≡ 3 }
-    ensures statuses { (result ≡ 0) ⊎ (result ≡ 1) ⊎ (result ≡ 3) ⊎ (result ≡ 5) ⊎ (result ≡ 6) }
-    ensures unwritten { (result ≢ 0) → reply.new ≡ reply.old }
+    ensures range { (result ≡ OUT_OF_RANGE) ↔ IsNoCall session command.now }
+    ensures statuses { IsOneOf result (DONE ∷ IS_CLOSED ∷ OUT_OF_RANGE ∷ FULL ∷ OUT_OF_MEMORY ∷ []) }
+    ensures unwritten { (result ≢ DONE) → reply.new ≡ reply.old }
 {
     let Some(session) = SessionNo::new(session) else {
         return OUT_OF_RANGE;
@@ -53,16 +54,16 @@ pub extern "C" fn lrc_embed_peek(
     command: &LrcCommand,
     reply: &mut LrcReply,
 ) -> u32
-    ensures done { (result ≡ 0) → Of handle.old.owned.book (IsPeek session command.now reply.new) }
+    ensures done { (result ≡ DONE) → Of handle.old.owned.book (IsPeek session command.now reply.new) }
     ensures same { handle.new.owned.book ≡ handle.old.owned.book }
-    ensures full { (result ≢ 1) → (result ≢ 3) → Of handle.old.owned.book (λ b. (result ≡ 5) ↔ (length b.history ≡ b.limit)) }
-    ensures closed { (result ≡ 1) → handle.old.owned.book ≡ None }
-    ensures range { (result ≡ 3) → IsOutside session ⊎ (is_command command.now ≡ false) }
+    ensures full { (result ≢ IS_CLOSED) → (result ≢ OUT_OF_RANGE)
+        → Of handle.old.owned.book (λ b. (result ≡ FULL) ↔ (length b.history ≡ b.limit)) }
+    ensures closed { (result ≡ IS_CLOSED) → handle.old.owned.book ≡ None }
     // A closed handle returns this too.
-    ensures range_first { IsOutside session ⊎ (is_command command.now ≡ false) → result ≡ 3 }
-    // Not 6: a peek requests no memory.
-    ensures statuses { (result ≡ 0) ⊎ (result ≡ 1) ⊎ (result ≡ 3) ⊎ (result ≡ 5) }
-    ensures unwritten { (result ≢ 0) → reply.new ≡ reply.old }
+    ensures range { (result ≡ OUT_OF_RANGE) ↔ IsNoCall session command.now }
+    // Not `OUT_OF_MEMORY`: a peek requests no memory.
+    ensures statuses { IsOneOf result (DONE ∷ IS_CLOSED ∷ OUT_OF_RANGE ∷ FULL ∷ []) }
+    ensures unwritten { (result ≢ DONE) → reply.new ≡ reply.old }
 {
     let Some(asker) = SessionNo::new(session) else {
         return OUT_OF_RANGE;
@@ -80,10 +81,10 @@ pub extern "C" fn lrc_embed_peek(
 
 /// Writes the reply that a call would get.
 fn decide(book: &Book, session: SessionNo, command: Command, reply: &mut LrcReply) -> u32
-    ensures done { (result ≡ 0) → IsReplyOf book.now session command reply.new }
-    ensures full { (result ≡ 5) ↔ (length book.now.history ≡ book.now.limit) }
-    ensures statuses { (result ≡ 0) ⊎ (result ≡ 5) }
-    ensures unwritten { (result ≢ 0) → reply.new ≡ reply.old }
+    ensures done { (result ≡ DONE) → IsReplyOf book.now session command reply.new }
+    ensures full { (result ≡ FULL) ↔ (length book.now.history ≡ book.now.limit) }
+    ensures statuses { IsOneOf result (DONE ∷ FULL ∷ []) }
+    ensures unwritten { (result ≢ DONE) → reply.new ≡ reply.old }
 {
     match book.decide(session, command) {
         Ok(entry) => {
@@ -101,11 +102,11 @@ pub(super) fn step(
     command: Command,
     reply: &mut LrcReply,
 ) -> u32
-    ensures done { (result ≡ 0) → IsStepOf book.old session command reply.new book.new }
-    ensures unchanged { (result ≢ 0) → contents (Some book.new) ≡ contents (Some book.old) }
-    ensures full { (result ≡ 5) ↔ (length book.old.history ≡ book.old.limit) }
-    ensures statuses { (result ≡ 0) ⊎ (result ≡ 5) ⊎ (result ≡ 6) }
-    ensures unwritten { (result ≢ 0) → reply.new ≡ reply.old }
+    ensures done { (result ≡ DONE) → IsStepOf book.old session command reply.new book.new }
+    ensures unchanged { (result ≢ DONE) → contents (Some book.new) ≡ contents (Some book.old) }
+    ensures full { (result ≡ FULL) ↔ (length book.old.history ≡ book.old.limit) }
+    ensures statuses { IsOneOf result (DONE ∷ FULL ∷ OUT_OF_MEMORY ∷ []) }
+    ensures unwritten { (result ≢ DONE) → reply.new ≡ reply.old }
 {
     match book.add(session, command) {
         Ok(_) => {

@@ -1,11 +1,12 @@
 //! The codes over buffers: parities are made, and fragments rebuilt.
 
-ghost use Rattle.std.specs.Prelude.{◌≡◌, ◌≢◌, ◌↔◌, ◌⊎◌, length, map};
+ghost use Rattle.std.specs.Prelude.{◌≡◌, ◌≢◌, ◌↔◌, ◌∷◌, [], length, map};
 ghost use Rattle.lrc_coder.specs.Buffers.{read, written, places};
 ghost use Rattle.lrc_coder.specs.Coding.{AreCounted, IsEncoded, IsRebuilt};
 ghost use Rattle.lrc_code.specs.Codes.{fragment_count};
 ghost use Rattle.lrc_embed.specs.Recipes.{AtCode, IsNoCode};
 ghost use Rattle.lrc_embed.specs.Coded.{IsUneven, IsReadUneven, IsOfNoCode};
+ghost use Rattle.lrc_embed.specs.Statuses.{IsOneOf};
 
 use crate::status::{DONE, MISCOUNTED, OUT_OF_RANGE, UNEVEN};
 use lrc_coder::{CodingError, encode, rebuild};
@@ -19,14 +20,17 @@ pub extern "C" fn lrc_embed_encode(
     data_fragments: &[&[u8]],
     parities: &mut [&mut [u8]],
 ) -> u32
-    ensures range { (result ≡ 3) ↔ IsNoCode code }
-    ensures done { (result ≡ 0) → AtCode code (λ c. IsEncoded c (read data_fragments.now) (written parities.old) (written parities.new)) }
-    ensures miscounted { (result ≡ 12) → AtCode code (λ c. ¬ AreCounted c (read data_fragments.now) (written parities.old)) }
-    ensures uneven { (result ≡ 13) → AtCode code (λ c. IsUneven c (read data_fragments.now) (written parities.old)) }
-    ensures statuses { (result ≡ 0) ⊎ (result ≡ 3) ⊎ (result ≡ 12) ⊎ (result ≡ 13) }
+    ensures range { (result ≡ OUT_OF_RANGE) ↔ IsNoCode code }
+    ensures done { (result ≡ DONE) → AtCode code (λ c.
+        IsEncoded c (read data_fragments.now) (written parities.old) (written parities.new)) }
+    ensures miscounted { (result ≡ MISCOUNTED) → AtCode code (λ c.
+        ¬ AreCounted c (read data_fragments.now) (written parities.old)) }
+    ensures uneven { (result ≡ UNEVEN) → AtCode code (λ c.
+        IsUneven c (read data_fragments.now) (written parities.old)) }
+    ensures statuses { IsOneOf result (DONE ∷ OUT_OF_RANGE ∷ MISCOUNTED ∷ UNEVEN ∷ []) }
     ensures places { places parities.new ≡ places parities.old }
     ensures lengths { map length (written parities.new) ≡ map length (written parities.old) }
-    ensures unwritten { (result ≢ 0) → written parities.new ≡ written parities.old }
+    ensures unwritten { (result ≢ DONE) → written parities.new ≡ written parities.old }
 {
     let Some(code) = code_of(code) else {
         return OUT_OF_RANGE;
@@ -39,19 +43,22 @@ pub extern "C" fn lrc_embed_encode(
 }
 
 /// Writes what a recipe makes of the fragments of a stripe, which stand by number. Those that it reads are as long as
-/// `rebuilt`; the others are not read, and may be empty. A recipe is out of range if its code lacks a fragment that it reads.
+/// `rebuilt`; the others are not read, and may be empty. A recipe is out of range if its code lacks a fragment that it
+/// reads.
 #[unsafe(no_mangle)]
 pub extern "C" fn lrc_embed_rebuild(
     recipe: &LrcRecipe,
     fragments: &[&[u8]],
     rebuilt: &mut [u8],
 ) -> u32
-    ensures range { (result ≡ 3) ↔ IsOfNoCode recipe.now.code recipe.now.coefficients }
-    ensures done { (result ≡ 0) → AtCode recipe.now.code (λ c. IsRebuilt c recipe.now.coefficients (read fragments.now) rebuilt.old rebuilt.new) }
-    ensures miscounted { (result ≡ 12) → AtCode recipe.now.code (λ c. length fragments.now ≢ fragment_count c) }
-    ensures uneven { (result ≡ 13) → AtCode recipe.now.code (λ c. IsReadUneven c recipe.now.coefficients (read fragments.now) (length rebuilt.old)) }
-    ensures statuses { (result ≡ 0) ⊎ (result ≡ 3) ⊎ (result ≡ 12) ⊎ (result ≡ 13) }
-    ensures unwritten { (result ≢ 0) → rebuilt.new ≡ rebuilt.old }
+    ensures range { (result ≡ OUT_OF_RANGE) ↔ IsOfNoCode recipe.now.code recipe.now.coefficients }
+    ensures done { (result ≡ DONE) → AtCode recipe.now.code (λ c.
+        IsRebuilt c recipe.now.coefficients (read fragments.now) rebuilt.old rebuilt.new) }
+    ensures miscounted { (result ≡ MISCOUNTED) → AtCode recipe.now.code (λ c. length fragments.now ≢ fragment_count c) }
+    ensures uneven { (result ≡ UNEVEN) → AtCode recipe.now.code (λ c.
+        IsReadUneven c recipe.now.coefficients (read fragments.now) (length rebuilt.old)) }
+    ensures statuses { IsOneOf result (DONE ∷ OUT_OF_RANGE ∷ MISCOUNTED ∷ UNEVEN ∷ []) }
+    ensures unwritten { (result ≢ DONE) → rebuilt.new ≡ rebuilt.old }
 {
     let Some(code) = code_of(recipe.code) else {
         return OUT_OF_RANGE;

@@ -1,6 +1,7 @@
-ghost use Rattle.std.specs.Prelude.{◌≡◌, ◌≢◌, ◌↔◌, ◌⊎◌, Some, None};
+ghost use Rattle.std.specs.Prelude.{◌≡◌, ◌≢◌, ◌↔◌, ◌∷◌, [], Some, None};
 ghost use Rattle.lrc_book.specs.Books.{IsSpent};
-ghost use Rattle.lrc_embed.specs.Calls.{Of, contents, IsForgotten};
+ghost use Rattle.lrc_embed.specs.Calls.{Of, contents, IsForgotten, IsReading};
+ghost use Rattle.lrc_embed.specs.Statuses.{IsOneOf};
 
 use crate::LrcHandle;
 use crate::status::{DONE, FULL, IS_CLOSED, OUT_OF_MEMORY};
@@ -11,11 +12,11 @@ use std::alloc::Global;
 /// Forgets the entries: the history is empty then. All looks but those at the history return what they returned before.
 #[unsafe(no_mangle)]
 pub extern "C" fn lrc_embed_forget(alloc: Global, handle: &mut LrcHandle) -> u32
-    ensures done { (result ≡ 0) → Of handle.old.owned.book (λ b. Of handle.new.owned.book (IsForgotten b)) }
-    ensures unchanged { (result ≢ 0) → contents handle.new.owned.book ≡ contents handle.old.owned.book }
-    ensures full { (result ≢ 1) → Of handle.old.owned.book (λ b. (result ≡ 5) ↔ IsSpent b) }
-    ensures closed { (result ≡ 1) → handle.old.owned.book ≡ None }
-    ensures statuses { (result ≡ 0) ⊎ (result ≡ 1) ⊎ (result ≡ 5) ⊎ (result ≡ 6) }
+    ensures done { (result ≡ DONE) → Of handle.old.owned.book (λ b. Of handle.new.owned.book (IsForgotten b)) }
+    ensures unchanged { (result ≢ DONE) → contents handle.new.owned.book ≡ contents handle.old.owned.book }
+    ensures full { (result ≢ IS_CLOSED) → Of handle.old.owned.book (λ b. (result ≡ FULL) ↔ IsSpent b) }
+    ensures closed { (result ≡ IS_CLOSED) → handle.old.owned.book ≡ None }
+    ensures statuses { IsOneOf result (DONE ∷ IS_CLOSED ∷ FULL ∷ OUT_OF_MEMORY ∷ []) }
 {
     let Some(mut book) = handle.take(alloc) else {
         return IS_CLOSED;
@@ -27,10 +28,10 @@ pub extern "C" fn lrc_embed_forget(alloc: Global, handle: &mut LrcHandle) -> u32
 
 /// Forgets the entries of a book.
 fn forget(book: &mut Book) -> u32
-    ensures done { (result ≡ 0) → IsForgotten book.old book.new }
-    ensures unchanged { (result ≢ 0) → contents (Some book.new) ≡ contents (Some book.old) }
-    ensures full { (result ≡ 5) ↔ IsSpent book.old }
-    ensures statuses { (result ≡ 0) ⊎ (result ≡ 5) ⊎ (result ≡ 6) }
+    ensures done { (result ≡ DONE) → IsForgotten book.old book.new }
+    ensures unchanged { (result ≢ DONE) → contents (Some book.new) ≡ contents (Some book.old) }
+    ensures full { (result ≡ FULL) ↔ IsSpent book.old }
+    ensures statuses { IsOneOf result (DONE ∷ FULL ∷ OUT_OF_MEMORY ∷ []) }
 {
     match book.forget() {
         Ok(_) => DONE,
@@ -43,11 +44,7 @@ fn forget(book: &mut Book) -> u32
 /// those that were forgotten.
 #[unsafe(no_mangle)]
 pub extern "C" fn lrc_embed_before(alloc: Global, handle: &mut LrcHandle, before: &mut u64) -> u32
-    ensures same { handle.new.owned.book ≡ handle.old.owned.book }
-    ensures value { (result ≡ 0) → Of handle.old.owned.book (λ b. b.before ≡ before.new) }
-    ensures closed { (result ≡ 1) → handle.old.owned.book ≡ None }
-    ensures statuses { (result ≡ 0) ⊎ (result ≡ 1) }
-    ensures unwritten { (result ≢ 0) → before.new ≡ before.old }
+    ensures { IsReading (λ b. b.before) handle.old.owned.book handle.new.owned.book result before.old before.new }
 {
     let Some(book) = handle.take(alloc) else {
         return IS_CLOSED;

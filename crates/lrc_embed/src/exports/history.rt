@@ -1,6 +1,6 @@
-ghost use Rattle.std.specs.Prelude.{◌≡◌, ◌≢◌, ◌⊎◌, None, option_map, length, slice_get};
+ghost use Rattle.std.specs.Prelude.{◌≡◌, option_map, length, slice_get};
 ghost use Rattle.lrc_records.specs.Replies.{encoded_entry};
-ghost use Rattle.lrc_embed.specs.Calls.{Of, IsLook};
+ghost use Rattle.lrc_embed.specs.Calls.{IsLook, IsReading};
 
 use crate::LrcHandle;
 use crate::exports::looks::look;
@@ -12,11 +12,7 @@ use std::alloc::Global;
 /// The number of entries of the history.
 #[unsafe(no_mangle)]
 pub extern "C" fn lrc_embed_count(alloc: Global, handle: &mut LrcHandle, count: &mut usize) -> u32
-    ensures same { handle.new.owned.book ≡ handle.old.owned.book }
-    ensures value { (result ≡ 0) → Of handle.old.owned.book (λ b. length b.history ≡ count.new) }
-    ensures closed { (result ≡ 1) → handle.old.owned.book ≡ None }
-    ensures statuses { (result ≡ 0) ⊎ (result ≡ 1) }
-    ensures unwritten { (result ≢ 0) → count.new ≡ count.old }
+    ensures { IsReading (λ b. length b.history) handle.old.owned.book handle.new.owned.book result count.old count.new }
 {
     let Some(book) = handle.take(alloc) else {
         return IS_CLOSED;
@@ -34,7 +30,8 @@ pub extern "C" fn lrc_embed_entry(
     index: usize,
     entry: &mut LrcEntry,
 ) -> u32
-    ensures { IsLook ⊥ (λ b found. option_map encoded_entry (slice_get b.history index) ≡ found) handle.old.owned.book handle.new.owned.book result entry.old entry.new }
+    ensures { IsLook ⊥ (λ b found. option_map encoded_entry (slice_get b.history index) ≡ found)
+        handle.old.owned.book handle.new.owned.book result entry.old entry.new }
 {
     look(
         alloc,

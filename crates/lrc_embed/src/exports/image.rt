@@ -1,7 +1,8 @@
-ghost use Rattle.std.specs.Prelude.{◌≡◌, ◌≢◌, ◌<◌, ◌++◌, ◌⊎◌, ◌↔◌, List, ℕ, true, is_some, None, length, drop};
+ghost use Rattle.std.specs.Prelude.{◌≡◌, ◌≢◌, ◌<◌, ◌↔◌, ◌++◌, ◌∷◌, [], List, ℕ, true, is_some, None, length, drop};
 ghost use Rattle.lrc_book.specs.Books.{IsSpent};
 ghost use Rattle.lrc_openings.specs.ImageTexts.{IsTextOfBook};
 ghost use Rattle.lrc_embed.specs.Calls.{Of};
+ghost use Rattle.lrc_embed.specs.Statuses.{IsOneOf};
 
 use crate::LrcHandle;
 use crate::status::{DONE, FULL, IS_CLOSED, OUT_OF_MEMORY, SHORT};
@@ -20,15 +21,19 @@ pub extern "C" fn lrc_embed_image(
     needed: &mut usize,
 ) -> u32
     ensures same { handle.new.owned.book ≡ handle.old.owned.book }
-    ensures done { (result ≡ 0) → Of handle.old.owned.book (λ b. (image : List ℕ) × IsTextOfBook b image × (needed.new ≡ length image) × (text.new ≡ image ++ drop (length image) text.old)) }
-    ensures short { (result ≡ 7) → Of handle.old.owned.book (λ b. (image : List ℕ) × IsTextOfBook b image × (needed.new ≡ length image) × (length text.old < length image)) }
-    ensures full { (result ≢ 1) → Of handle.old.owned.book (λ b. (result ≡ 5) ↔ IsSpent b) }
-    ensures closed { (result ≡ 1) → handle.old.owned.book ≡ None }
-    // A closed handle returns 1, without a request for memory.
-    ensures memory { (result ≡ 6) → is_some handle.old.owned.book ≡ true }
-    ensures statuses { (result ≡ 0) ⊎ (result ≡ 1) ⊎ (result ≡ 5) ⊎ (result ≡ 6) ⊎ (result ≡ 7) }
-    ensures unwritten { (result ≢ 0) → text.new ≡ text.old }
-    ensures unneeded { (result ≢ 0) → (result ≢ 7) → needed.new ≡ needed.old }
+    ensures done { (result ≡ DONE) → Of handle.old.owned.book (λ b. (image : List ℕ)
+        × IsTextOfBook b image × (needed.new ≡ length image)
+        × (text.new ≡ image ++ drop (length image) text.old)) }
+    ensures short { (result ≡ SHORT) → Of handle.old.owned.book (λ b. (image : List ℕ)
+        × IsTextOfBook b image × (needed.new ≡ length image)
+        × (length text.old < length image)) }
+    ensures full { (result ≢ IS_CLOSED) → Of handle.old.owned.book (λ b. (result ≡ FULL) ↔ IsSpent b) }
+    ensures closed { (result ≡ IS_CLOSED) → handle.old.owned.book ≡ None }
+    // A closed handle requests no memory.
+    ensures memory { (result ≡ OUT_OF_MEMORY) → is_some handle.old.owned.book ≡ true }
+    ensures statuses { IsOneOf result (DONE ∷ IS_CLOSED ∷ FULL ∷ OUT_OF_MEMORY ∷ SHORT ∷ []) }
+    ensures unwritten { (result ≢ DONE) → text.new ≡ text.old }
+    ensures unneeded { (result ≢ DONE) → (result ≢ SHORT) → needed.new ≡ needed.old }
 {
     let Some(book) = handle.take(alloc) else {
         return IS_CLOSED;
@@ -40,12 +45,16 @@ pub extern "C" fn lrc_embed_image(
 
 /// Writes the text of the image of a book into the first bytes of a buffer, if it has room for it.
 fn write_image(alloc: Global, book: &Book, text: &mut [u8], needed: &mut usize) -> u32
-    ensures done { (result ≡ 0) → (image : List ℕ) × IsTextOfBook book.now image × (needed.new ≡ length image) × (text.new ≡ image ++ drop (length image) text.old) }
-    ensures short { (result ≡ 7) → (image : List ℕ) × IsTextOfBook book.now image × (needed.new ≡ length image) × (length text.old < length image) }
-    ensures full { (result ≡ 5) ↔ IsSpent book.now }
-    ensures statuses { (result ≡ 0) ⊎ (result ≡ 5) ⊎ (result ≡ 6) ⊎ (result ≡ 7) }
-    ensures unwritten { (result ≢ 0) → text.new ≡ text.old }
-    ensures unneeded { (result ≢ 0) → (result ≢ 7) → needed.new ≡ needed.old }
+    ensures done { (result ≡ DONE) → (image : List ℕ)
+        × IsTextOfBook book.now image × (needed.new ≡ length image)
+        × (text.new ≡ image ++ drop (length image) text.old) }
+    ensures short { (result ≡ SHORT) → (image : List ℕ)
+        × IsTextOfBook book.now image × (needed.new ≡ length image)
+        × (length text.old < length image) }
+    ensures full { (result ≡ FULL) ↔ IsSpent book.now }
+    ensures statuses { IsOneOf result (DONE ∷ FULL ∷ OUT_OF_MEMORY ∷ SHORT ∷ []) }
+    ensures unwritten { (result ≢ DONE) → text.new ≡ text.old }
+    ensures unneeded { (result ≢ DONE) → (result ≢ SHORT) → needed.new ≡ needed.old }
 {
     match image_text(alloc, book) {
         Ok(image) => put_text(&image, text, needed),
@@ -57,9 +66,9 @@ fn write_image(alloc: Global, book: &Book, text: &mut [u8], needed: &mut usize) 
 /// Writes a text into the first bytes of a buffer, if it has room for it, and the length of the text.
 pub(super) fn put_text(image: &[u8], text: &mut [u8], needed: &mut usize) -> u32
     ensures needed { needed.new ≡ length image.now }
-    ensures done { (result ≡ 0) → text.new ≡ image.now ++ drop (length image.now) text.old }
-    ensures short { (result ≡ 7) → (text.new ≡ text.old) × (length text.old < length image.now) }
-    ensures statuses { (result ≡ 0) ⊎ (result ≡ 7) }
+    ensures done { (result ≡ DONE) → text.new ≡ image.now ++ drop (length image.now) text.old }
+    ensures short { (result ≡ SHORT) → (text.new ≡ text.old) × (length text.old < length image.now) }
+    ensures statuses { IsOneOf result (DONE ∷ SHORT ∷ []) }
 {
     *needed = image.len();
     if image.len() > text.len() {

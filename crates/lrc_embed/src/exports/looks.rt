@@ -1,12 +1,13 @@
-ghost use Rattle.std.specs.Prelude.{◌≡◌, ◌≢◌, ◌≤◌, ◌⊎◌, None, option_map};
+ghost use Rattle.std.specs.Prelude.{◌≡◌, option_map};
 ghost use Rattle.std.specs.Fn.{FnOnceReturnsAt};
 ghost use Rattle.lrc_book.specs.Books.{state_of};
-ghost use Rattle.lrc_rules.specs.States.{code_shown, homes_shown, level_shown, missing_shown, lease_of, load_shown, mode_shown};
+ghost use Rattle.lrc_rules.specs.States.{code_shown, homes_shown, level_shown, missing_shown, lease_of};
+ghost use Rattle.lrc_rules.specs.States.{load_shown, mode_shown};
 ghost use Rattle.lrc_book.specs.Looks.{down_shown, kind_shown};
 ghost use Rattle.lrc_records.specs.Replies.{encoded_lease, repair_plan};
 ghost use Rattle.lrc_records.specs.Shown.{flag, encoded_code, encoded_homes, encoded_level, encoded_mode};
 ghost use Rattle.lrc_images.specs.Rows.{node_no};
-ghost use Rattle.lrc_embed.specs.Calls.{Of, AtFragment, IsLook, IsStripeLook};
+ghost use Rattle.lrc_embed.specs.Calls.{IsLook, IsStripeLook, IsFragmentLook, IsReading};
 
 use crate::LrcHandle;
 use crate::status::{DONE, IS_CLOSED, OUT_OF_RANGE, UNKNOWN};
@@ -24,7 +25,8 @@ pub(super) fn look<T: Copy, F: FnOnce(&Book) -> Option<T>>(
     find: F,
 ) -> u32
     requires callable { F.IsAlwaysCallable find }
-    ensures { IsLook ⊥ (FnOnceReturnsAt F.FnOnce find) handle.old.owned.book handle.new.owned.book result to.old to.new }
+    ensures { IsLook ⊥ (FnOnceReturnsAt F.FnOnce find)
+        handle.old.owned.book handle.new.owned.book result to.old to.new }
 {
     let Some(book) = handle.take(alloc) else {
         return IS_CLOSED;
@@ -48,7 +50,8 @@ pub extern "C" fn lrc_embed_homes(
     stripe: u16,
     homes: &mut LrcHomes,
 ) -> u32
-    ensures { IsStripeLook stripe (λ b s. option_map encoded_homes (homes_shown (state_of b) s)) handle.old.owned.book handle.new.owned.book result homes.old homes.new }
+    ensures { IsStripeLook stripe (λ b s. option_map encoded_homes (homes_shown (state_of b) s))
+        handle.old.owned.book handle.new.owned.book result homes.old homes.new }
 {
     let Some(stripe) = StripeNo::new(stripe) else {
         return OUT_OF_RANGE;
@@ -69,7 +72,8 @@ pub extern "C" fn lrc_embed_level(
     stripe: u16,
     level: &mut LrcLevel,
 ) -> u32
-    ensures { IsStripeLook stripe (λ b s. option_map encoded_level (level_shown b.nodes (state_of b) s)) handle.old.owned.book handle.new.owned.book result level.old level.new }
+    ensures { IsStripeLook stripe (λ b s. option_map encoded_level (level_shown b.nodes (state_of b) s))
+        handle.old.owned.book handle.new.owned.book result level.old level.new }
 {
     let Some(stripe) = StripeNo::new(stripe) else {
         return OUT_OF_RANGE;
@@ -90,7 +94,8 @@ pub extern "C" fn lrc_embed_missing(
     stripe: u16,
     missing: &mut u16,
 ) -> u32
-    ensures { IsStripeLook stripe (λ b s. option_map (λ m. m.bits) (missing_shown b.nodes (state_of b) s)) handle.old.owned.book handle.new.owned.book result missing.old missing.new }
+    ensures { IsStripeLook stripe (λ b s. option_map (λ m. m.bits) (missing_shown b.nodes (state_of b) s))
+        handle.old.owned.book handle.new.owned.book result missing.old missing.new }
 {
     let Some(stripe) = StripeNo::new(stripe) else {
         return OUT_OF_RANGE;
@@ -111,7 +116,8 @@ pub extern "C" fn lrc_embed_code(
     stripe: u16,
     code: &mut u8,
 ) -> u32
-    ensures { IsStripeLook stripe (λ b s. option_map encoded_code (code_shown (state_of b) s)) handle.old.owned.book handle.new.owned.book result code.old code.new }
+    ensures { IsStripeLook stripe (λ b s. option_map encoded_code (code_shown (state_of b) s))
+        handle.old.owned.book handle.new.owned.book result code.old code.new }
 {
     let Some(stripe) = StripeNo::new(stripe) else {
         return OUT_OF_RANGE;
@@ -133,7 +139,8 @@ pub extern "C" fn lrc_embed_lease(
     fragment: u8,
     lease: &mut LrcLease,
 ) -> u32
-    ensures { IsLook ((4096 ≤ stripe) ⊎ (16 ≤ fragment)) (λ b found. AtFragment stripe fragment (λ s f. option_map encoded_lease (lease_of (state_of b) s f) ≡ found)) handle.old.owned.book handle.new.owned.book result lease.old lease.new }
+    ensures { IsFragmentLook stripe fragment (λ b s f. option_map encoded_lease (lease_of (state_of b) s f))
+        handle.old.owned.book handle.new.owned.book result lease.old lease.new }
 {
     let Some(stripe) = StripeNo::new(stripe) else {
         return OUT_OF_RANGE;
@@ -158,7 +165,8 @@ pub extern "C" fn lrc_embed_repair(
     fragment: u8,
     plan: &mut LrcRepairPlan,
 ) -> u32
-    ensures { IsLook ((4096 ≤ stripe) ⊎ (16 ≤ fragment)) (λ b found. AtFragment stripe fragment (λ s f. option_map repair_plan (kind_shown b.nodes (state_of b) s f) ≡ found)) handle.old.owned.book handle.new.owned.book result plan.old plan.new }
+    ensures { IsFragmentLook stripe fragment (λ b s f. option_map repair_plan (kind_shown b.nodes (state_of b) s f))
+        handle.old.owned.book handle.new.owned.book result plan.old plan.new }
 {
     let Some(stripe) = StripeNo::new(stripe) else {
         return OUT_OF_RANGE;
@@ -182,7 +190,8 @@ pub extern "C" fn lrc_embed_load(
     node: u16,
     load: &mut u32,
 ) -> u32
-    ensures { IsLook ⊥ (λ b found. load_shown b.nodes (state_of b) (node_no node) ≡ found) handle.old.owned.book handle.new.owned.book result load.old load.new }
+    ensures { IsLook ⊥ (λ b found. load_shown b.nodes (state_of b) (node_no node) ≡ found)
+        handle.old.owned.book handle.new.owned.book result load.old load.new }
 {
     look(
         alloc,
@@ -200,7 +209,8 @@ pub extern "C" fn lrc_embed_mode(
     node: u16,
     mode: &mut LrcMode,
 ) -> u32
-    ensures { IsLook ⊥ (λ b found. option_map encoded_mode (mode_shown b.nodes (state_of b) (node_no node)) ≡ found) handle.old.owned.book handle.new.owned.book result mode.old mode.new }
+    ensures { IsLook ⊥ (λ b found. option_map encoded_mode (mode_shown b.nodes (state_of b) (node_no node)) ≡ found)
+        handle.old.owned.book handle.new.owned.book result mode.old mode.new }
 {
     look(
         alloc,
@@ -218,7 +228,8 @@ pub extern "C" fn lrc_embed_is_down(
     node: u16,
     is_down: &mut u8,
 ) -> u32
-    ensures { IsLook ⊥ (λ b found. option_map flag (down_shown b.nodes (state_of b) (node_no node)) ≡ found) handle.old.owned.book handle.new.owned.book result is_down.old is_down.new }
+    ensures { IsLook ⊥ (λ b found. option_map flag (down_shown b.nodes (state_of b) (node_no node)) ≡ found)
+        handle.old.owned.book handle.new.owned.book result is_down.old is_down.new }
 {
     look(
         alloc,
@@ -231,7 +242,8 @@ pub extern "C" fn lrc_embed_is_down(
 /// The upgrade domain that is upgrading, if one is.
 #[unsafe(no_mangle)]
 pub extern "C" fn lrc_embed_upgrading(alloc: Global, handle: &mut LrcHandle, domain: &mut u8) -> u32
-    ensures { IsLook ⊥ (λ b found. option_map (λ u. u.value) (state_of b).upgrading ≡ found) handle.old.owned.book handle.new.owned.book result domain.old domain.new }
+    ensures { IsLook ⊥ (λ b found. option_map (λ u. u.value) (state_of b).upgrading ≡ found)
+        handle.old.owned.book handle.new.owned.book result domain.old domain.new }
 {
     look(alloc, handle, domain, |book| Some(book.upgrading()?.value))
 }
@@ -239,11 +251,8 @@ pub extern "C" fn lrc_embed_upgrading(alloc: Global, handle: &mut LrcHandle, dom
 /// The number of ticks. A live lease ends when the clock reaches its expiry.
 #[unsafe(no_mangle)]
 pub extern "C" fn lrc_embed_clock(alloc: Global, handle: &mut LrcHandle, clock: &mut u32) -> u32
-    ensures same { handle.new.owned.book ≡ handle.old.owned.book }
-    ensures value { (result ≡ 0) → Of handle.old.owned.book (λ b. (state_of b).clock ≡ clock.new) }
-    ensures closed { (result ≡ 1) → handle.old.owned.book ≡ None }
-    ensures statuses { (result ≡ 0) ⊎ (result ≡ 1) }
-    ensures unwritten { (result ≢ 0) → clock.new ≡ clock.old }
+    ensures { IsReading (λ b. (state_of b).clock)
+        handle.old.owned.book handle.new.owned.book result clock.old clock.new }
 {
     let Some(book) = handle.take(alloc) else {
         return IS_CLOSED;

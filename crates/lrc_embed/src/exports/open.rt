@@ -1,6 +1,6 @@
-ghost use Rattle.std.specs.Prelude.{◌≡◌, ◌≢◌, ◌≤◌, ◌<◌, ◌↔◌, ◌⊎◌, None, true, is_some};
+ghost use Rattle.std.specs.Prelude.{◌≡◌, ◌≢◌, ◌≤◌, ◌<◌, ◌↔◌, ◌⊎◌, ◌∷◌, [], None, true, is_some};
 ghost use Rattle.lrc_embed.specs.Calls.{Of, IsNew, IsRefused};
-ghost use Rattle.lrc_embed.specs.Statuses.{topology_status};
+ghost use Rattle.lrc_embed.specs.Statuses.{IsOneOf, IsTopologyStatus, topology_status};
 
 use crate::LrcHandle;
 use crate::status::{
@@ -35,8 +35,8 @@ pub extern "C" fn lrc_embed_rules_version() -> u32
     RULES
 }
 
-/// Opens a closed handle with a book of the nodes of the text. Statuses 16 to 21 are the refusals of the text; `detail` is
-/// then the position or the node number.
+/// Opens a closed handle with a book of the nodes of the text. `SYNTAX` to `TOO_MANY` are the refusals of the text;
+/// `detail` is then the position or the node number.
 #[unsafe(no_mangle)]
 pub extern "C" fn lrc_embed_open(
     alloc: Global,
@@ -44,12 +44,12 @@ pub extern "C" fn lrc_embed_open(
     text: &[u8],
     detail: &mut usize,
 ) -> u32
-    ensures opened { (result ≡ 0) → Of handle.new.owned.book (IsNew text.now) }
-    ensures unchanged { (result ≢ 0) → handle.new.owned.book ≡ handle.old.owned.book }
-    ensures refused { (16 ≤ result) → IsRefused text.now result detail.new }
-    ensures open { (result ≡ 2) ↔ (is_some handle.old.owned.book ≡ true) }
-    ensures statuses { (result ≡ 0) ⊎ (result ≡ 2) ⊎ (result ≡ 6) ⊎ ((16 ≤ result) × (result ≤ 21)) }
-    ensures unwritten { (result < 16) → detail.new ≡ detail.old }
+    ensures opened { (result ≡ DONE) → Of handle.new.owned.book (IsNew text.now) }
+    ensures unchanged { (result ≢ DONE) → handle.new.owned.book ≡ handle.old.owned.book }
+    ensures refused { (SYNTAX ≤ result) → IsRefused text.now result detail.new }
+    ensures open { (result ≡ IS_OPEN) ↔ (is_some handle.old.owned.book ≡ true) }
+    ensures statuses { IsOneOf result (DONE ∷ IS_OPEN ∷ OUT_OF_MEMORY ∷ []) ⊎ IsTopologyStatus result }
+    ensures unwritten { (result < SYNTAX) → detail.new ≡ detail.old }
 {
     if handle.is_open() {
         return IS_OPEN;
@@ -94,7 +94,7 @@ pub(super) fn refusal_of(error: TopologyError) -> (u32, usize)
 #[unsafe(no_mangle)]
 pub extern "C" fn lrc_embed_close(alloc: Global, handle: &mut LrcHandle) -> u32
     ensures closed { handle.new.owned.book ≡ None }
-    ensures status { result ≡ 0 }
+    ensures status { result ≡ DONE }
 {
     let _book = handle.take(alloc);
     DONE

@@ -1,12 +1,12 @@
 //! A call that is made only where its caller knows all entries before it.
 
-ghost use Rattle.std.specs.Prelude.{◌≡◌, ◌≢◌, ◌↔◌, ◌⊎◌, ◌+◌, false, true, Some, None, length};
-ghost use Rattle.lrc_records.specs.Commands.{is_command};
-ghost use Rattle.lrc_embed.specs.Calls.{Of, contents, IsCall, IsStepOf, IsOutside, entry_count};
+ghost use Rattle.std.specs.Prelude.{◌≡◌, ◌≢◌, ◌↔◌, ◌∷◌, [], true, Some, None, length};
+ghost use Rattle.lrc_embed.specs.Calls.{Of, contents, IsCall, IsStepOf, entry_count, IsNoCall};
+ghost use Rattle.lrc_embed.specs.Statuses.{IsOneOf};
 
 use crate::LrcHandle;
 use crate::exports::call::step;
-use crate::status::{IS_CLOSED, MOVED, OUT_OF_RANGE};
+use crate::status::{DONE, FULL, IS_CLOSED, MOVED, OUT_OF_MEMORY, OUT_OF_RANGE};
 use lrc_book::{Book, Command};
 use lrc_code::SessionNo;
 use lrc_records::{LrcCommand, LrcReply};
@@ -22,16 +22,18 @@ pub extern "C" fn lrc_embed_call_at(
     command: &LrcCommand,
     reply: &mut LrcReply,
 ) -> u32
-    ensures done { (result ≡ 0) → Of handle.old.owned.book (λ b. Of handle.new.owned.book (IsCall session command.now reply.new b)) }
-    ensures unchanged { (result ≢ 0) → contents handle.new.owned.book ≡ contents handle.old.owned.book }
-    ensures moved { (result ≢ 1) → (result ≢ 3) → Of handle.old.owned.book (λ b. (result ≡ 9) ↔ (entry_count b ≢ place)) }
-    ensures full { (result ≢ 1) → (result ≢ 3) → (result ≢ 9) → Of handle.old.owned.book (λ b. (result ≡ 5) ↔ (length b.history ≡ b.limit)) }
-    ensures closed { (result ≡ 1) → handle.old.owned.book ≡ None }
-    ensures range { (result ≡ 3) → IsOutside session ⊎ (is_command command.now ≡ false) }
+    ensures done { (result ≡ DONE)
+        → Of handle.old.owned.book (λ b. Of handle.new.owned.book (IsCall session command.now reply.new b)) }
+    ensures unchanged { (result ≢ DONE) → contents handle.new.owned.book ≡ contents handle.old.owned.book }
+    ensures moved { (result ≢ IS_CLOSED) → (result ≢ OUT_OF_RANGE)
+        → Of handle.old.owned.book (λ b. (result ≡ MOVED) ↔ (entry_count b ≢ place)) }
+    ensures full { (result ≢ IS_CLOSED) → (result ≢ OUT_OF_RANGE) → (result ≢ MOVED)
+        → Of handle.old.owned.book (λ b. (result ≡ FULL) ↔ (length b.history ≡ b.limit)) }
+    ensures closed { (result ≡ IS_CLOSED) → handle.old.owned.book ≡ None }
     // A closed handle returns this too.
-    ensures range_first { IsOutside session ⊎ (is_command command.now ≡ false) → result ≡ 3 }
-    ensures statuses { (result ≡ 0) ⊎ (result ≡ 1) ⊎ (result ≡ 3) ⊎ (result ≡ 5) ⊎ (result ≡ 6) ⊎ (result ≡ 9) }
-    ensures unwritten { (result ≢ 0) → reply.new ≡ reply.old }
+    ensures range { (result ≡ OUT_OF_RANGE) ↔ IsNoCall session command.now }
+    ensures statuses { IsOneOf result (DONE ∷ IS_CLOSED ∷ OUT_OF_RANGE ∷ FULL ∷ OUT_OF_MEMORY ∷ MOVED ∷ []) }
+    ensures unwritten { (result ≢ DONE) → reply.new ≡ reply.old }
 {
     let Some(session) = SessionNo::new(session) else {
         return OUT_OF_RANGE;
@@ -55,12 +57,12 @@ fn step_at(
     command: Command,
     reply: &mut LrcReply,
 ) -> u32
-    ensures done { (result ≡ 0) → IsStepOf book.old session command reply.new book.new }
-    ensures unchanged { (result ≢ 0) → contents (Some book.new) ≡ contents (Some book.old) }
-    ensures moved { (result ≡ 9) ↔ (entry_count book.old ≢ place) }
-    ensures full { (result ≢ 9) → (result ≡ 5) ↔ (length book.old.history ≡ book.old.limit) }
-    ensures statuses { (result ≡ 0) ⊎ (result ≡ 5) ⊎ (result ≡ 6) ⊎ (result ≡ 9) }
-    ensures unwritten { (result ≢ 0) → reply.new ≡ reply.old }
+    ensures done { (result ≡ DONE) → IsStepOf book.old session command reply.new book.new }
+    ensures unchanged { (result ≢ DONE) → contents (Some book.new) ≡ contents (Some book.old) }
+    ensures moved { (result ≡ MOVED) ↔ (entry_count book.old ≢ place) }
+    ensures full { (result ≢ MOVED) → (result ≡ FULL) ↔ (length book.old.history ≡ book.old.limit) }
+    ensures statuses { IsOneOf result (DONE ∷ FULL ∷ OUT_OF_MEMORY ∷ MOVED ∷ []) }
+    ensures unwritten { (result ≢ DONE) → reply.new ≡ reply.old }
 {
     if !is_at(book, place) {
         return MOVED;

@@ -1,10 +1,11 @@
-ghost use Rattle.std.specs.Prelude.{◌≡◌, ◌≢◌, ◌≤◌, ◌↔◌, ◌⊎◌, None};
+ghost use Rattle.std.specs.Prelude.{◌≡◌, ◌≢◌, ◌≤◌, ◌↔◌, ◌⊎◌, ◌∷◌, [], None};
 ghost use Rattle.lrc_embed.specs.Calls.{Of, AtFragment};
 ghost use Rattle.lrc_embed.specs.Leased.{HasRecipe, HasNone, HasNoLease};
+ghost use Rattle.lrc_embed.specs.Statuses.{IsOneOf};
 
 use crate::LrcHandle;
 use crate::exports::recipes::put_recipe;
-use crate::status::{IS_CLOSED, OUT_OF_RANGE, UNKNOWN};
+use crate::status::{DONE, IS_CLOSED, OUT_OF_RANGE, UNDETERMINED, UNKNOWN};
 use lrc_book::Book;
 use lrc_code::{Fragment, StripeNo};
 use lrc_records::LrcRecipe;
@@ -20,13 +21,15 @@ pub extern "C" fn lrc_embed_recipe(
     recipe: &mut LrcRecipe,
 ) -> u32
     ensures same { handle.new.owned.book ≡ handle.old.owned.book }
-    ensures range { (result ≡ 3) ↔ ((4096 ≤ stripe) ⊎ (16 ≤ fragment)) }
-    ensures done { (result ≡ 0) → Of handle.old.owned.book (λ b. AtFragment stripe fragment (HasRecipe b recipe.new)) }
-    ensures undetermined { (result ≡ 11) → Of handle.old.owned.book (λ b. AtFragment stripe fragment (HasNone b)) }
-    ensures unknown { (result ≡ 4) → Of handle.old.owned.book (λ b. AtFragment stripe fragment (HasNoLease b)) }
-    ensures closed { (result ≡ 1) → handle.old.owned.book ≡ None }
-    ensures statuses { (result ≡ 0) ⊎ (result ≡ 1) ⊎ (result ≡ 3) ⊎ (result ≡ 4) ⊎ (result ≡ 11) }
-    ensures unwritten { (result ≢ 0) → recipe.new ≡ recipe.old }
+    ensures range { (result ≡ OUT_OF_RANGE) ↔ ((4096 ≤ stripe) ⊎ (16 ≤ fragment)) }
+    ensures done { (result ≡ DONE)
+        → Of handle.old.owned.book (λ b. AtFragment stripe fragment (HasRecipe b recipe.new)) }
+    ensures undetermined { (result ≡ UNDETERMINED)
+        → Of handle.old.owned.book (λ b. AtFragment stripe fragment (HasNone b)) }
+    ensures unknown { (result ≡ UNKNOWN) → Of handle.old.owned.book (λ b. AtFragment stripe fragment (HasNoLease b)) }
+    ensures closed { (result ≡ IS_CLOSED) → handle.old.owned.book ≡ None }
+    ensures statuses { IsOneOf result (DONE ∷ IS_CLOSED ∷ OUT_OF_RANGE ∷ UNKNOWN ∷ UNDETERMINED ∷ []) }
+    ensures unwritten { (result ≢ DONE) → recipe.new ≡ recipe.old }
 {
     let Some(stripe) = StripeNo::new(stripe) else {
         return OUT_OF_RANGE;
@@ -44,11 +47,11 @@ pub extern "C" fn lrc_embed_recipe(
 
 /// Writes the recipe of a fragment that has a live lease, if what is not missing now determines it.
 fn put_recipe_now(book: &Book, stripe: StripeNo, fragment: Fragment, recipe: &mut LrcRecipe) -> u32
-    ensures done { (result ≡ 0) → HasRecipe book.now recipe.new stripe fragment }
-    ensures undetermined { (result ≡ 11) → HasNone book.now stripe fragment }
-    ensures unknown { (result ≡ 4) → HasNoLease book.now stripe fragment }
-    ensures statuses { (result ≡ 0) ⊎ (result ≡ 4) ⊎ (result ≡ 11) }
-    ensures unwritten { (result ≢ 0) → recipe.new ≡ recipe.old }
+    ensures done { (result ≡ DONE) → HasRecipe book.now recipe.new stripe fragment }
+    ensures undetermined { (result ≡ UNDETERMINED) → HasNone book.now stripe fragment }
+    ensures unknown { (result ≡ UNKNOWN) → HasNoLease book.now stripe fragment }
+    ensures statuses { IsOneOf result (DONE ∷ UNKNOWN ∷ UNDETERMINED ∷ []) }
+    ensures unwritten { (result ≢ DONE) → recipe.new ≡ recipe.old }
 {
     let Some(_lease) = book.lease(stripe, fragment) else {
         return UNKNOWN;

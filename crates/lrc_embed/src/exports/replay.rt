@@ -1,6 +1,7 @@
-ghost use Rattle.std.specs.Prelude.{◌≡◌, ◌≢◌, ◌⊎◌, None};
+ghost use Rattle.std.specs.Prelude.{◌≡◌, ◌≢◌, ◌⊎◌, ◌∷◌, [], None};
 ghost use Rattle.lrc_embed.specs.Calls.{Of};
 ghost use Rattle.lrc_embed.specs.Replays.{IsReplay, IsRepeat, StopsAt, IsUnreadable, IsFull, IsCallable, IsDifferent};
+ghost use Rattle.lrc_embed.specs.Statuses.{IsOneOf};
 
 use crate::LrcHandle;
 use crate::status::{DIFFERENT, DONE, FULL, IS_CLOSED, OUT_OF_MEMORY, OUT_OF_RANGE};
@@ -9,8 +10,8 @@ use lrc_code::{Fault, SessionNo};
 use lrc_records::LrcEntry;
 use std::alloc::Global;
 
-/// Repeats the calls of saved entries after the history that the book has, and compares each reply. If one cannot be made
-/// or has another reply, the handle is closed, and `position` is that of the entry, from 0.
+/// Repeats the calls of saved entries after the history that the book has, and compares each reply. If one cannot be
+/// made or has another reply, the handle is closed, and `position` is that of the entry, from 0.
 #[unsafe(no_mangle)]
 pub extern "C" fn lrc_embed_replay(
     alloc: Global,
@@ -18,15 +19,15 @@ pub extern "C" fn lrc_embed_replay(
     entries: &[LrcEntry],
     position: &mut usize,
 ) -> u32
-    ensures done { (result ≡ 0) → Of handle.old.owned.book (λ b. Of handle.new.owned.book (IsReplay entries.now b)) }
-    ensures shut { (result ≢ 0) → handle.new.owned.book ≡ None }
-    ensures closed { (result ≡ 1) → handle.old.owned.book ≡ None }
-    ensures range { (result ≡ 3) → Of handle.old.owned.book (StopsAt IsUnreadable entries.now position.new) }
-    ensures full { (result ≡ 5) → Of handle.old.owned.book (StopsAt IsFull entries.now position.new) }
-    ensures memory { (result ≡ 6) → Of handle.old.owned.book (StopsAt IsCallable entries.now position.new) }
-    ensures different { (result ≡ 8) → Of handle.old.owned.book (StopsAt IsDifferent entries.now position.new) }
-    ensures statuses { (result ≡ 0) ⊎ (result ≡ 1) ⊎ (result ≡ 3) ⊎ (result ≡ 5) ⊎ (result ≡ 6) ⊎ (result ≡ 8) }
-    ensures unwritten { (result ≡ 0) ⊎ (result ≡ 1) → position.new ≡ position.old }
+    ensures done { (result ≡ DONE) → Of handle.old.owned.book (λ b. Of handle.new.owned.book (IsReplay entries.now b)) }
+    ensures shut { (result ≢ DONE) → handle.new.owned.book ≡ None }
+    ensures closed { (result ≡ IS_CLOSED) → handle.old.owned.book ≡ None }
+    ensures range { (result ≡ OUT_OF_RANGE) → Of handle.old.owned.book (StopsAt IsUnreadable entries.now position.new) }
+    ensures full { (result ≡ FULL) → Of handle.old.owned.book (StopsAt IsFull entries.now position.new) }
+    ensures memory { (result ≡ OUT_OF_MEMORY) → Of handle.old.owned.book (StopsAt IsCallable entries.now position.new) }
+    ensures different { (result ≡ DIFFERENT) → Of handle.old.owned.book (StopsAt IsDifferent entries.now position.new) }
+    ensures statuses { IsOneOf result (DONE ∷ IS_CLOSED ∷ OUT_OF_RANGE ∷ FULL ∷ OUT_OF_MEMORY ∷ DIFFERENT ∷ []) }
+    ensures unwritten { (result ≡ DONE) ⊎ (result ≡ IS_CLOSED) → position.new ≡ position.old }
 {
     let Some(mut book) = handle.take(alloc) else {
         return IS_CLOSED;
@@ -44,12 +45,12 @@ pub extern "C" fn lrc_embed_replay(
 
 /// Repeats the call of an entry, and compares its reply.
 fn repeat(book: &mut Book, entry: &LrcEntry) -> u32
-    ensures done { (result ≡ 0) → IsRepeat entry.now book.old book.new }
-    ensures range { (result ≡ 3) → IsUnreadable entry.now book.old }
-    ensures full { (result ≡ 5) → IsFull entry.now book.old }
-    ensures memory { (result ≡ 6) → IsCallable entry.now book.old }
-    ensures different { (result ≡ 8) → IsDifferent entry.now book.old }
-    ensures statuses { (result ≡ 0) ⊎ (result ≡ 3) ⊎ (result ≡ 5) ⊎ (result ≡ 6) ⊎ (result ≡ 8) }
+    ensures done { (result ≡ DONE) → IsRepeat entry.now book.old book.new }
+    ensures range { (result ≡ OUT_OF_RANGE) → IsUnreadable entry.now book.old }
+    ensures full { (result ≡ FULL) → IsFull entry.now book.old }
+    ensures memory { (result ≡ OUT_OF_MEMORY) → IsCallable entry.now book.old }
+    ensures different { (result ≡ DIFFERENT) → IsDifferent entry.now book.old }
+    ensures statuses { IsOneOf result (DONE ∷ OUT_OF_RANGE ∷ FULL ∷ OUT_OF_MEMORY ∷ DIFFERENT ∷ []) }
 {
     let Some(session) = SessionNo::new(entry.session) else {
         return OUT_OF_RANGE;

@@ -1,11 +1,13 @@
 //! Walks over what the book has, a buffer of rows at a time.
 
-ghost use Rattle.std.specs.Prelude.{◌≡◌, ◌≢◌, ◌<◌, ◌↔◌, ◌⊎◌, true, is_some, None, take, length};
+ghost use Rattle.std.specs.Prelude.{◌≡◌, ◌≢◌, ◌<◌, ◌↔◌, ◌⊎◌, ◌∷◌, [], true, is_some, None, take, length};
 ghost use Rattle.lrc_topology.specs.Nodes.{node_at};
 ghost use Rattle.lrc_images.specs.Rows.{node_no};
-ghost use Rattle.lrc_walks.specs.WalkRows.{AreFirstRows, stripes_from, nodes_from, leases_from, homes_from, entries_from};
+ghost use Rattle.lrc_walks.specs.WalkRows.{AreFirstRows, stripes_from, nodes_from, leases_from, homes_from};
+ghost use Rattle.lrc_walks.specs.WalkRows.{entries_from};
 ghost use Rattle.lrc_embed.specs.Calls.{Of};
 ghost use Rattle.lrc_embed.specs.Walks.{IsWalk};
+ghost use Rattle.lrc_embed.specs.Statuses.{IsOneOf};
 
 use crate::LrcHandle;
 use crate::status::{DONE, FORGOTTEN, IS_CLOSED, OUT_OF_MEMORY, UNKNOWN};
@@ -24,7 +26,8 @@ pub extern "C" fn lrc_embed_stripes(
     rows: &mut [LrcStripe],
     count: &mut usize,
 ) -> u32
-    ensures { IsWalk (λ b. stripes_from b from) handle.old.owned.book handle.new.owned.book result rows.old rows.new count.old count.new }
+    ensures { IsWalk (λ b. stripes_from b from)
+        handle.old.owned.book handle.new.owned.book result rows.old rows.new count.old count.new }
 {
     let Some(book) = handle.take(alloc) else {
         return IS_CLOSED;
@@ -43,7 +46,8 @@ pub extern "C" fn lrc_embed_nodes(
     rows: &mut [LrcNode],
     count: &mut usize,
 ) -> u32
-    ensures { IsWalk (λ b. nodes_from b from) handle.old.owned.book handle.new.owned.book result rows.old rows.new count.old count.new }
+    ensures { IsWalk (λ b. nodes_from b from)
+        handle.old.owned.book handle.new.owned.book result rows.old rows.new count.old count.new }
 {
     let Some(book) = handle.take(alloc) else {
         return IS_CLOSED;
@@ -63,7 +67,8 @@ pub extern "C" fn lrc_embed_leases(
     rows: &mut [LrcLease],
     count: &mut usize,
 ) -> u32
-    ensures { IsWalk (λ b. leases_from b from_stripe from_fragment) handle.old.owned.book handle.new.owned.book result rows.old rows.new count.old count.new }
+    ensures { IsWalk (λ b. leases_from b from_stripe from_fragment)
+        handle.old.owned.book handle.new.owned.book result rows.old rows.new count.old count.new }
 {
     let Some(book) = handle.take(alloc) else {
         return IS_CLOSED;
@@ -85,14 +90,17 @@ pub extern "C" fn lrc_embed_homes_on(
     count: &mut usize,
 ) -> u32
     ensures same { handle.new.owned.book ≡ handle.old.owned.book }
-    ensures done { (result ≡ 0) → Of handle.old.owned.book (λ b. AreFirstRows (take (length rows.old) (homes_from b (node_no node) from_stripe from_fragment)) count.new rows.old rows.new) }
-    ensures known { (result ≡ 0) → Of handle.old.owned.book (λ b. is_some (node_at b.nodes (node_no node)) ≡ true) }
-    ensures unknown { (result ≡ 4) → Of handle.old.owned.book (λ b. node_at b.nodes (node_no node) ≡ None) }
-    ensures closed { (result ≡ 1) → handle.old.owned.book ≡ None }
+    ensures done { (result ≡ DONE) → Of handle.old.owned.book (λ b.
+        AreFirstRows (take (length rows.old) (homes_from b (node_no node) from_stripe from_fragment))
+        count.new rows.old rows.new) }
+    ensures known { (result ≡ DONE) → Of handle.old.owned.book (λ b. is_some (node_at b.nodes (node_no node)) ≡ true) }
+    ensures unknown { (result ≡ UNKNOWN) → Of handle.old.owned.book (λ b. node_at b.nodes (node_no node) ≡ None) }
+    ensures closed { (result ≡ IS_CLOSED) → handle.old.owned.book ≡ None }
     // Neither a closed handle nor an unknown node takes memory.
-    ensures memory { (result ≡ 6) → Of handle.old.owned.book (λ b. is_some (node_at b.nodes (node_no node)) ≡ true) }
-    ensures statuses { (result ≡ 0) ⊎ (result ≡ 1) ⊎ (result ≡ 4) ⊎ (result ≡ 6) }
-    ensures unwritten { (result ≢ 0) → (rows.new ≡ rows.old) × (count.new ≡ count.old) }
+    ensures memory { (result ≡ OUT_OF_MEMORY) → Of handle.old.owned.book (λ b.
+        is_some (node_at b.nodes (node_no node)) ≡ true) }
+    ensures statuses { IsOneOf result (DONE ∷ IS_CLOSED ∷ UNKNOWN ∷ OUT_OF_MEMORY ∷ []) }
+    ensures unwritten { (result ≢ DONE) → (rows.new ≡ rows.old) × (count.new ≡ count.old) }
 {
     let Some(book) = handle.take(alloc) else {
         return IS_CLOSED;
@@ -120,11 +128,13 @@ fn put_homes_on(
     rows: &mut [LrcFragment],
     count: &mut usize,
 ) -> u32
-    ensures done { (result ≡ 0) → AreFirstRows (take (length rows.old) (homes_from book.now node from_stripe from_fragment)) count.new rows.old rows.new }
-    ensures known { (result ≡ 0) ⊎ (result ≡ 6) → is_some (node_at book.now.nodes node) ≡ true }
-    ensures unknown { (result ≡ 4) → node_at book.now.nodes node ≡ None }
-    ensures statuses { (result ≡ 0) ⊎ (result ≡ 4) ⊎ (result ≡ 6) }
-    ensures unwritten { (result ≢ 0) → (rows.new ≡ rows.old) × (count.new ≡ count.old) }
+    ensures done { (result ≡ DONE)
+        → AreFirstRows (take (length rows.old) (homes_from book.now node from_stripe from_fragment))
+        count.new rows.old rows.new }
+    ensures known { (result ≡ DONE) ⊎ (result ≡ OUT_OF_MEMORY) → is_some (node_at book.now.nodes node) ≡ true }
+    ensures unknown { (result ≡ UNKNOWN) → node_at book.now.nodes node ≡ None }
+    ensures statuses { IsOneOf result (DONE ∷ UNKNOWN ∷ OUT_OF_MEMORY ∷ []) }
+    ensures unwritten { (result ≢ DONE) → (rows.new ≡ rows.old) × (count.new ≡ count.old) }
 {
     if book.topology().node(node).is_none() {
         return UNKNOWN;
@@ -138,8 +148,8 @@ fn put_homes_on(
     }
 }
 
-/// The store's entries from a place on, which is the number of those before it. The place may not be before the history:
-/// what stands there is forgotten, or was never in this book.
+/// The store's entries from a place on, which is the number of those before it. The place may not be before the
+/// history: what stands there is forgotten, or was never in this book.
 #[unsafe(no_mangle)]
 pub extern "C" fn lrc_embed_entries(
     alloc: Global,
@@ -149,11 +159,13 @@ pub extern "C" fn lrc_embed_entries(
     count: &mut usize,
 ) -> u32
     ensures same { handle.new.owned.book ≡ handle.old.owned.book }
-    ensures done { (result ≡ 0) → Of handle.old.owned.book (λ b. AreFirstRows (take (length rows.old) (entries_from b place)) count.new rows.old rows.new) }
-    ensures forgotten { (result ≢ 1) → Of handle.old.owned.book (λ b. (result ≡ 10) ↔ (place < b.before)) }
-    ensures closed { (result ≡ 1) → handle.old.owned.book ≡ None }
-    ensures statuses { (result ≡ 0) ⊎ (result ≡ 1) ⊎ (result ≡ 10) }
-    ensures unwritten { (result ≢ 0) → (rows.new ≡ rows.old) × (count.new ≡ count.old) }
+    ensures done { (result ≡ DONE) → Of handle.old.owned.book (λ b.
+        AreFirstRows (take (length rows.old) (entries_from b place)) count.new rows.old rows.new) }
+    ensures forgotten { (result ≢ IS_CLOSED)
+        → Of handle.old.owned.book (λ b. (result ≡ FORGOTTEN) ↔ (place < b.before)) }
+    ensures closed { (result ≡ IS_CLOSED) → handle.old.owned.book ≡ None }
+    ensures statuses { IsOneOf result (DONE ∷ IS_CLOSED ∷ FORGOTTEN ∷ []) }
+    ensures unwritten { (result ≢ DONE) → (rows.new ≡ rows.old) × (count.new ≡ count.old) }
 {
     let Some(book) = handle.take(alloc) else {
         return IS_CLOSED;
@@ -165,10 +177,11 @@ pub extern "C" fn lrc_embed_entries(
 
 /// Writes the first entries from a place on, if none of them is forgotten.
 fn put_remembered(book: &Book, place: u64, rows: &mut [LrcEntry], count: &mut usize) -> u32
-    ensures done { (result ≡ 0) → AreFirstRows (take (length rows.old) (entries_from book.now place)) count.new rows.old rows.new }
-    ensures forgotten { (result ≡ 10) ↔ (place < book.now.before) }
-    ensures statuses { (result ≡ 0) ⊎ (result ≡ 10) }
-    ensures unwritten { (result ≢ 0) → (rows.new ≡ rows.old) × (count.new ≡ count.old) }
+    ensures done { (result ≡ DONE)
+        → AreFirstRows (take (length rows.old) (entries_from book.now place)) count.new rows.old rows.new }
+    ensures forgotten { (result ≡ FORGOTTEN) ↔ (place < book.now.before) }
+    ensures statuses { IsOneOf result (DONE ∷ FORGOTTEN ∷ []) }
+    ensures unwritten { (result ≢ DONE) → (rows.new ≡ rows.old) × (count.new ≡ count.old) }
 {
     if place < book.before() {
         return FORGOTTEN;

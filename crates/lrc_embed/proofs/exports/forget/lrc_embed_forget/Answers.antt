@@ -1,5 +1,6 @@
 use Rattle.std.proofs.Common.{◌≡◌, ◌↔◌, subst}
 use Rattle.lrc_book.specs.Books.{BookView, IsSpent}
+use Rattle.lrc_embed.specs.declared.status.TheConstants.{FULL}
 use Rattle.lrc_embed.specs.Calls.{IsForgotten}
 use Rattle.lrc_embed.proofs.OfLemmas.{of_some}
 use Rattle.lrc_embed.proofs.exports.forget.lrc_embed_forget.Goals as goal
@@ -10,4 +11,4 @@ returns-clause-done c = λ done. of_some _ c.in-Some.ensures.book (of_some _ c.p
 
 pub returns-clause-full : goal.returns-clause-full
 returns-clause-full c = λ _. of_some _ c.in-Some.ensures.book
-    (subst (λ (b : BookView). (c.forget-status.result ≡ 5) ↔ IsSpent b) c.deref_mut.ensures.value c.forget-status.ensures.full)
+    (subst (λ (b : BookView). (c.forget-status.result ≡ FULL) ↔ IsSpent b) c.deref_mut.ensures.value c.forget-status.ensures.full)

@@ -1,6 +1,7 @@
 use Rattle.std.proofs.Common.{◌≡◌, ◌↔◌, subst}
 use Rattle.lrc_book.specs.Books.{BookView, IsSpent}
 use Rattle.lrc_openings.specs.ImageTexts.{IsTextOfBook}
+use Rattle.lrc_embed.specs.declared.status.TheConstants.{FULL}
 use Rattle.lrc_embed.proofs.OfLemmas.{of_some}
 use Rattle.lrc_embed.proofs.exports.image.lrc_embed_image.Goals as goal
 
@@ -14,4 +15,4 @@ returns-clause-short c = λ short. of_some _ c.in-Some.ensures.book
 
 pub returns-clause-full : goal.returns-clause-full
 returns-clause-full c = λ _. of_some _ c.in-Some.ensures.book
-    (subst (λ (b : BookView). (c.write_image-status.result ≡ 5) ↔ IsSpent b) c.deref.ensures c.write_image-status.ensures.full)
+    (subst (λ (b : BookView). (c.write_image-status.result ≡ FULL) ↔ IsSpent b) c.deref.ensures c.write_image-status.ensures.full)
