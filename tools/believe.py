@@ -9,7 +9,7 @@ Usage: tools/believe               the definitions, and how many they are
 
 A definition is internal if the first line of its file says so, or if the comment above it begins with `(internal)`.
 
-The claimed calls are those of docs/PROMISES.md: the public ones of `Book`, of lrc_sessions, of lrc_forecast and of lrc_embed, eight of
+The claimed calls are those of docs/PROMISES.md: the public ones of `Book`, of lrc_sessions, of lrc_forecast and of lrc_embed, seven of
 lrc_tool, and the laws that the page names. What their clauses name is looked up by the imports of the file, and so is what these
 definitions name in turn. Of the model of a type only its record is followed: a caller knows no more of it than the clauses say."""
 import functools
@@ -27,7 +27,7 @@ IMPORT = re.compile(r"\buse\s+Rattle\.(\w+)\.specs\.([A-Z]\w*)(?:\.\{([^}]*)\}|\
 # A word, with what stands behind its dot; not one that stands behind a dot itself, such as a field.
 WORD = re.compile(r"(?<![\w.'-])([A-Za-z_][\w'-]*)(?:\.([A-Za-z_][\w'-]*))?")
 WHOLE = {"lrc_sessions", "lrc_forecast", "lrc_embed"}  # the crates of which each public call is claimed
-CALLS = {("lrc_tool", name) for name in ("run", "check", "go_on", "ask", "recover", "recover_narrow", "recipe", "matrix")}
+CALLS = {("lrc_tool", name) for name in ("run", "check", "go_on", "ask", "recover", "recipe", "matrix")}
 # What docs/PROMISES.md names beside clauses: what a private type and its body owe, and what a session has seen.
 BESIDES = {("lrc_sessions", "Locked", "IsLocked"), ("lrc_sessions", "Locked", "IsMade"), ("lrc_board", "Lines", "written")}
 

@@ -1,4 +1,4 @@
 pub mod ReadLemmas
+pub mod AnswersLemmas
 pub mod WarnedLemmas
 mod RowsOfMasks
-pub mod ApartLemmas

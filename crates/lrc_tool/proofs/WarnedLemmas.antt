@@ -11,8 +11,9 @@ use Rattle.lrc_outputs.specs.Limits.{sequel_limit}
 use Rattle.lrc_outputs.specs.Outputs.{run_judging, IsAnsweredUnless}
 use Rattle.lrc_outputs.specs.Sequels.{has_image, IsToldUnless}
 use Rattle.lrc_outputs.specs.Checks.{IsCountedLine, counting, IsCheckIn, IsCheck, IsWarned}
-use Rattle.lrc_tool.specs.Sinks.{WritesWarnings}
-use Rattle.lrc_tool.proofs.ReadLemmas.{TellsAlike, too_long, told_to_read}
+use Rattle.lrc_tool.specs.Answering.{Writing}
+use Rattle.lrc_tool.specs.Inputs.{WritesWarnings}
+use Rattle.lrc_tool.proofs.ReadLemmas.{AnswersAlike, too_long, outcome_of_read}
 
 -- ---- inputs that are too long
 
@@ -30,10 +31,10 @@ told_long true input text status long h = subst (λ (b : Bool). IsToldUnless cou
 told_long false input text status long h =
     subst (λ (o : Option (List ℕ)). IsAnsweredUnless (run_judging IsCountedLine) o input text status) (sym (too_long input (omega (arith, long)))) h
 
-pub checked_alike : TellsAlike sequel_limit IsCheck
+pub checked_alike : AnswersAlike sequel_limit IsCheck
 checked_alike a b text status p q h = told_long (has_image b) b text status q (long_told (has_image a) a text status p h)
 
-pub warned_alike : TellsAlike sequel_limit IsWarned
+pub warned_alike : AnswersAlike sequel_limit IsWarned
 warned_alike a b text ended.Done p q h = absurd (omega (arith, p, h.1.short))
 warned_alike a b text ended.BadLine p q h = h
 warned_alike a b text ended.Refused p q h = h
@@ -46,13 +47,13 @@ pub whole_part : (old new : Option (List ℕ)) (bytes : List ℕ) → Appends ol
 whole_part old new bytes written = record { count = length bytes; within = omega arith; written = subst (Appends old new) (sym (take_all (length bytes) bytes (omega arith))) written }
 
 -- what stands in the code's own names: the bytes that were read, and what is warned of
-pub warns : (failed : Bool) (after : Option (List ℕ)) (read read' warned warned' : List ℕ) (status : Status) (old new : Option (List ℕ)) → read' ≡ read → warned' ≡ warned
-    → (before : Option (List ℕ)) → IsReadUpTo sequel_limit before after read → IsWarned read' warned status → AppendsPart old new warned' → (failed ≡ false → Appends old new warned')
-    → IfSome before (λ input. WritesWarnings failed old new input status)
-warns failed after read read' warned warned' status old new same_read same None taken told part whole = tt
-warns failed after read read' warned warned' status old new same_read same (Some input) taken told part whole = record {
+pub warns : (errors : Writing) (after : Option (List ℕ)) (read read' warned warned' : List ℕ) (status : Status) → read' ≡ read → warned' ≡ warned
+    → (before : Option (List ℕ)) → IsReadUpTo sequel_limit before after read → IsWarned read' warned status → AppendsPart errors.old errors.new warned'
+    → (errors.has_failed ≡ false → Appends errors.old errors.new warned') → IfSome before (λ input. WritesWarnings errors input status)
+warns errors after read read' warned warned' status same_read same None taken told part whole = tt
+warns errors after read read' warned warned' status same_read same (Some input) taken told part whole = record {
   text = warned;
-  warned = told_to_read IsWarned sequel_limit warned_alike input read warned status after taken (subst (λ (b : List ℕ). IsWarned b warned status) same_read told);
-  part = subst (AppendsPart old new) same part;
-  whole = λ well. subst (Appends old new) same (whole well);
+  warned = outcome_of_read IsWarned sequel_limit warned_alike (Some input) after read warned status taken (subst (λ (b : List ℕ). IsWarned b warned status) same_read told);
+  part = subst (AppendsPart errors.old errors.new) same part;
+  whole = λ well. subst (Appends errors.old errors.new) same (whole well);
 }

@@ -7,7 +7,6 @@ pub use Rattle.lrc_outputs.specs.RefusedInputs
 pub use Rattle.lrc_outputs.specs.Outputs
 pub use Rattle.lrc_outputs.specs.Checks
 pub use Rattle.lrc_outputs.specs.Sequels
-pub mod Apart
-pub mod Sinks
-pub mod Recoveries
+pub mod Answering
+pub mod Inputs
 pub mod Coding

@@ -1,25 +1,22 @@
 //! How a fragment is rebuilt, from words to the bytes of the sinks, and the generator matrix of a code.
 
-ghost use Rattle.std.specs.Prelude.{◌≡◌, ◌≢◌, ◌||◌, ◌⊎◌, true, is_ok, OnOk, IfOk, IfErr, IsErrOf};
-ghost use Rattle.std.specs.Io.KnownBytes.{Appends, Keeps};
-ghost use Rattle.lrc_outputs.specs.RefusedInputs.{is_answer};
+ghost use Rattle.std.specs.Prelude.{◌≡◌, IfOk};
 ghost use Rattle.lrc_outputs.specs.declared.status.Status.TheVariants.{Done};
 ghost use Rattle.lrc_coding.specs.Told.{matrix_text};
-ghost use Rattle.lrc_streams.specs.Streams.{is_write_fault, AppendsPart};
-ghost use Rattle.lrc_streams.specs.declared.streams.RunFault.TheVariants as fault;
-ghost use Rattle.lrc_tool.specs.Apart.{IsFlushedApart};
-ghost use Rattle.lrc_tool.specs.Coding.{told_text, IsToldOn, IsPartlyToldOn, WritesRecipe, WritesPartOfRecipe};
+ghost use Rattle.lrc_tool.specs.Answering.{one_outcome, writing, no_writing, Writes};
+ghost use Rattle.lrc_tool.specs.Coding.{told_text, rebuilding};
 
+use crate::outcome::write_outcome;
 use lrc_code::Code;
 use lrc_coding::{Recipe, RecipeRefusal, push_matrix, push_recipe, recipe_for};
 use lrc_outputs::Status;
-use lrc_streams::{RunFault, Sink, write_all};
+use lrc_streams::{RunFault, Sink};
 use lrc_text::parse_mask;
 use std::alloc::{AllocError, Global};
 
-/// Writes how a fragment of a stripe of the code is rebuilt where the fragments of the mask are missing: the fragments that are
-/// read, and the coefficient of each. The words are a mask as `recover` takes it, and the number of the fragment. Where there is
-/// no such recipe, it writes why to `errors`, and nothing to `sink`.
+/// Writes how a fragment of a stripe of the code is rebuilt where the fragments of the mask are missing: the
+/// fragments that are read, and the coefficient of each. The words are a mask as `recover` takes it, and the number
+/// of the fragment. Where there is no such recipe, it writes why to `errors`, and nothing to `sink`.
 ///
 /// # Errors
 ///
@@ -32,48 +29,14 @@ pub fn recipe<W: Sink, E: Sink>(
     sink: &mut W,
     errors: &mut E,
 ) -> Result<Status, RunFault>
-    // The recipe was written, or why there is none, whole.
-    ensures written { IfOk result (λ status. WritesRecipe code mask.now fragment.now
-        (record { old = W.written sink.old; new = W.written sink.new }) (record { old = E.written errors.old; new = E.written errors.new }) status) }
-
-    // After an error nothing was written, or after a failed write a prefix.
-    ensures nothing { IfErr result (λ e. e ≢ fault.Write → Keeps (W.written sink.old) (W.written sink.new) × Keeps (E.written errors.old) (E.written errors.new)) }
-    ensures part { IsErrOf result fault.Write → WritesPartOfRecipe code mask.now fragment.now
-        (record { old = W.written sink.old; new = W.written sink.new }) (record { old = E.written errors.old; new = E.written errors.new }) }
-
-    // After `Ok` what was written to was flushed after its last write.
-    ensures flushed { IfOk result (λ status. IsFlushedApart (is_answer status) (W.is_flushed sink.new) (E.is_flushed errors.new)) }
-
-    // It returns `Write` exactly if a write failed, and else only `OutOfMemory`.
-    ensures err { IfErr result (λ e. (e ≡ fault.OutOfMemory) ⊎ (e ≡ fault.Write)) }
-    ensures write { (W.has_failed sink.new || E.has_failed errors.new) ≡ ((W.has_failed sink.old || E.has_failed errors.old) || is_write_fault result) }
+    ensures writes { Writes (rebuilding code mask.now fragment.now) (writing W.Sink sink.old sink.new)
+        (writing E.Sink errors.old errors.new) result }
 {
     let answer = recipe_for(code, parse_mask(code, mask), fragment);
     let told = told_text(alloc, &answer)?;
-    write_told(answer.is_ok(), told.as_slice(), sink, errors)?;
     match answer {
-        Ok(_) => Ok(Status::Done),
-        Err(_) => Ok(Status::Refused),
-    }
-}
-
-/// Writes an answer to `sink`, or another text to `errors`.
-fn write_told<W: Sink, E: Sink>(
-    is_answer: bool,
-    told: &[u8],
-    sink: &mut W,
-    errors: &mut E,
-) -> Result<(), RunFault>
-    ensures written { OnOk result (IsToldOn is_answer told.now (record { old = W.written sink.old; new = W.written sink.new }) (record { old = E.written errors.old; new = E.written errors.new })) }
-    ensures part { IsErrOf result fault.Write → IsPartlyToldOn is_answer told.now (record { old = W.written sink.old; new = W.written sink.new }) (record { old = E.written errors.old; new = E.written errors.new }) }
-    ensures flushed { OnOk result (IsFlushedApart is_answer (W.is_flushed sink.new) (E.is_flushed errors.new)) }
-    ensures err { IfErr result (λ e. e ≡ fault.Write) }
-    ensures write { (W.has_failed sink.new || E.has_failed errors.new) ≡ ((W.has_failed sink.old || E.has_failed errors.old) || is_write_fault result) }
-{
-    if is_answer {
-        write_all(sink, told)
-    } else {
-        write_all(errors, told)
+        Ok(_) => write_outcome(sink, told.as_slice(), Status::Done),
+        Err(_) => write_outcome(errors, told.as_slice(), Status::Refused),
     }
 }
 
@@ -96,24 +59,10 @@ fn told_text(alloc: Global, answer: &Result<Recipe, RecipeRefusal>) -> Result<Ve
 ///
 /// `OutOfMemory`; `Write` if a write fails.
 pub fn matrix<W: Sink>(alloc: Global, code: Code, sink: &mut W) -> Result<Status, RunFault>
-    // The matrix was written, whole.
-    ensures written { OnOk result (Appends (W.written sink.old) (W.written sink.new) (matrix_text code)) }
-    ensures status { IfOk result (λ status. status ≡ Done) }
-
-    // After an error nothing was written, or after a failed write a prefix of the matrix.
-    ensures nothing { IfErr result (λ e. e ≢ fault.Write → Keeps (W.written sink.old) (W.written sink.new)) }
-    ensures part { IsErrOf result fault.Write → AppendsPart (W.written sink.old) (W.written sink.new) (matrix_text code) }
-
-    // After `Ok` the sink was flushed after its last write.
-    ensures flushed { OnOk result (W.is_flushed sink.new ≡ true) }
-
-    // It returns `Write` exactly if a write failed, and else only `OutOfMemory`.
-    ensures err { IfErr result (λ e. (e ≡ fault.OutOfMemory) ⊎ (e ≡ fault.Write)) }
-    ensures write { W.has_failed sink.new ≡ (W.has_failed sink.old || is_write_fault result) }
+    ensures writes { Writes (one_outcome (matrix_text code) Done) (writing W.Sink sink.old sink.new) no_writing result }
 {
     let told = matrix_text(alloc, code)?;
-    write_all(sink, told.as_slice())?;
-    Ok(Status::Done)
+    write_outcome(sink, told.as_slice(), Status::Done)
 }
 
 /// The generator matrix of the code, as a text.

@@ -4,6 +4,7 @@
 mod apart;
 mod checking;
 mod coding;
+mod outcome;
 mod program;
 mod recovery;
 mod sequel;
@@ -18,5 +19,5 @@ pub use lrc_script::{Cause, ScriptError, parse_script};
 pub use lrc_show::View;
 pub use lrc_streams::{Plain, RunFault, Sink, Source};
 pub use program::run;
-pub use recovery::{recover, recover_narrow};
+pub use recovery::recover;
 pub use sequel::go_on;

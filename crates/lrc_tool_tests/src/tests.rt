@@ -1,5 +1,5 @@
-//! Streams that fail, and bundles that are cut anywhere. The files under `examples` test lines, topologies, what whole runs
-//! print, and the texts of refusals.
+//! Streams that fail, and bundles that are cut anywhere. The files under `examples` test lines, topologies, what
+//! whole runs print, and the texts of refusals.
 
 mod bundles;
 mod checks;

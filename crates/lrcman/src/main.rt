@@ -15,7 +15,7 @@ use clap::{Arg, ArgAction, ArgMatches, Command};
 use lrc_code::Code;
 use lrc_tool::{
     Goal, Named, Outage, Plain, RunFault, Status, View, ask, check, go_on, matrix, recipe, recover,
-    recover_narrow, run,
+    run,
 };
 use std::alloc::{AllocError, Global};
 use std::process::ExitCode;
@@ -32,8 +32,7 @@ enum Request<'a> {
     Image,
     Show(View),
     Forecast(Outage, Vec<Named>),
-    Recover { mask: &'a str },
-    Recover6 { mask: &'a str },
+    Recover(Code, &'a str),
     Recipe(Code, RecipeWords<'a>),
     Matrix(Code),
 }
@@ -110,12 +109,8 @@ fn request_in<'a>(alloc: Global, matches: &ArgMatches<'a>) -> Result<Request<'a>
         "check" => Ok(Request::Check),
         "image" => Ok(Request::Image),
         "resume" => Ok(Request::Resume),
-        "recover" => Ok(Request::Recover {
-            mask: mask_in(found)?,
-        }),
-        "recover6" => Ok(Request::Recover6 {
-            mask: mask_in(found)?,
-        }),
+        "recover" => Ok(Request::Recover(Code::Wide, mask_in(found)?)),
+        "recover6" => Ok(Request::Recover(Code::Narrow, mask_in(found)?)),
         "recipe" => Ok(Request::Recipe(Code::Wide, words_in(found)?)),
         "recipe6" => Ok(Request::Recipe(Code::Narrow, words_in(found)?)),
         "matrix" => Ok(Request::Matrix(Code::Wide)),
@@ -173,9 +168,8 @@ fn serve<T: Threads + Wait + Sync>(
         Request::Forecast(outage, named) => {
             ask_input(rt, Goal::Forecast(*outage, named.as_slice()))
         }
-        Request::Recover { mask } => recover(rt.alloc(), mask, &mut Plain::new(io::writer(rt))),
-        Request::Recover6 { mask } => {
-            recover_narrow(rt.alloc(), mask, &mut Plain::new(io::writer(rt)))
+        Request::Recover(code, mask) => {
+            recover(rt.alloc(), *code, mask, &mut Plain::new(io::writer(rt)))
         }
         Request::Recipe(code, words) => tell_recipe(rt, *code, *words),
         Request::Matrix(code) => matrix(rt.alloc(), *code, &mut Plain::new(io::writer(rt))),

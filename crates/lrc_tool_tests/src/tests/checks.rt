@@ -5,8 +5,8 @@ use crate::tests::{ONE_NODE, ONE_NODE_WARNINGS};
 use lrc_tool::{Plain, Sink, Status, check};
 use std::alloc::Global;
 
-/// Returns whether a check of such streams, or of fresh ones, ends with this status, writes this line, and warns of both
-/// codes exactly if the bundle passes.
+/// Returns whether a check of such streams, or of fresh ones, ends with this status, writes this line, and warns of
+/// both codes exactly if the bundle passes.
 fn is_told(alloc: Global, bundle: &str, line: &str, status: Status, failed: bool) -> bool {
     let mut source = Plain::new(bundle.as_bytes());
     source.failed = failed;
@@ -58,8 +58,8 @@ fn streams_that_failed_are_read_and_written_like_fresh_ones(rt: HostRuntime) {
     }
 }
 
-/// Returns whether a check is right whose second sink fails at this call: it ends as without, the line was written whole, and
-/// nothing of the warnings but what the sink took.
+/// Returns whether a check is right whose second sink fails at this call: it ends as without, the line was written
+/// whole, and nothing of the warnings but what the sink took.
 fn is_warned(alloc: Global, failure: Failure, fails_at: usize) -> bool {
     let mut source = Plain::new(ONE_NODE);
     let mut sink = Plain::new(Vec::new(alloc));

@@ -1,7 +1,8 @@
 //! Recoveries whose writer fails, and masks of narrow stripes.
 
 use super::fakes::{Dribble, Failure};
-use lrc_tool::{Plain, RunFault, Sink, Status, recover, recover_narrow};
+use lrc_code::Code;
+use lrc_tool::{Plain, RunFault, Sink, Status, recover};
 use std::alloc::Global;
 use std::io;
 
@@ -16,7 +17,7 @@ fn is_written(alloc: Global, failure: Failure, fails_at: usize, failed: bool) ->
         failure,
     });
     sink.failed = failed;
-    let result = recover(alloc, "0047", &mut sink);
+    let result = recover(alloc, Code::Wide, "0047", &mut sink);
     // One call for each byte, and one to flush.
     if fails_at <= LINE.len() + 1 {
         let taken = &LINE[..fails_at.saturating_sub(1)];
@@ -57,7 +58,7 @@ fn is_told(alloc: Global, mask: &str, line: &str, status: Status) -> bool {
         fails_at: 0,
         failure: Failure::NoByte,
     });
-    let result = recover_narrow(alloc, mask, &mut sink);
+    let result = recover(alloc, Code::Narrow, mask, &mut sink);
     result == Ok(status) && sink.inner.taken.as_slice() == line.as_bytes()
 }
 
