@@ -13,7 +13,7 @@ use Rattle.lrc_field.specs.Field.{times}
 use Rattle.lrc_field.specs.Stripes.{Bytes, IsRow, IsStripe, data_count, data_of, numbers_of, in_parity, generator, sum_of}
 use Rattle.lrc_field.specs.Recipes.{read_by}
 use Rattle.lrc_field.proofs.SumLemmas.{sum_of-agree}
-use Rattle.lrc_coder.specs.Buffers.{written, buffer_at, bytes_at, each_of}
+use Rattle.lrc_coder.specs.Buffers.{written_buffers, buffer_at, bytes_at, each_of}
 use Rattle.lrc_coder.specs.Coding.{AreEven}
 use Rattle.lrc_coder.proofs.SumLemmas.{times_none}
 
@@ -96,7 +96,7 @@ same_lengths xs ys same n low below =
     sym (get_or-map length xs n [] 0 low) ∙ ap (λ ls. get_or ls n 0) same ∙ get_or-map length ys n [] 0 below
 
 -- the buffer of a number among those that are written
-pub written_at : (buffers : List (MutBor (List ℕ))) (n : ℕ) (d : MutBor (List ℕ)) → n < length buffers → buffer_at (written buffers) n ≡ (get_or buffers n d).now
+pub written_at : (buffers : List (MutBor (List ℕ))) (n : ℕ) (d : MutBor (List ℕ)) → n < length buffers → buffer_at (written_buffers buffers) n ≡ (get_or buffers n d).now
 written_at buffers n d inside = get_or-map (λ b. b.now) buffers n d [] inside
 
 -- one more buffer of a list that is filled from the front
@@ -135,14 +135,14 @@ parity_long code ds ws is even j low =
     ap length (sym (parity_at code ds ws j is)) ∙ even (data_count code + j) (parities_inside code (data_count code) j refl low) ∙ ap length (data_at ds ws 0 (omega (arith, is, some)))
 
 -- a parity that is to be written is as long as the data
-pub target_long : (code : Code) (ds : List (List ℕ)) (old ps : List (MutBor (List ℕ))) → length ds ≡ data_count code → AreEven (ds ++ written old) (fragment_count code)
-    → map length (written ps) ≡ map length (written old) → length ps ≡ length old → (n : ℕ) (d : MutBor (List ℕ)) → n < 4 → n < length ps → length (get_or ps n d).now ≡ length (buffer_at ds 0)
+pub target_long : (code : Code) (ds : List (List ℕ)) (old ps : List (MutBor (List ℕ))) → length ds ≡ data_count code → AreEven (ds ++ written_buffers old) (fragment_count code)
+    → map length (written_buffers ps) ≡ map length (written_buffers old) → length ps ≡ length old → (n : ℕ) (d : MutBor (List ℕ)) → n < 4 → n < length ps → length (get_or ps n d).now ≡ length (buffer_at ds 0)
 target_long code ds old ps is even same count n d low inside =
     let p = length-map ps (λ b. b.now) in
     let q = length-map old (λ b. b.now) in
     ap length (sym (written_at ps n d inside))
-    ∙ same_lengths (written ps) (written old) same n (omega (arith, p, inside)) (omega (arith, q, count, inside))
-    ∙ parity_long code ds (written old) is even n low
+    ∙ same_lengths (written_buffers ps) (written_buffers old) same n (omega (arith, p, inside)) (omega (arith, q, count, inside))
+    ∙ parity_long code ds (written_buffers old) is even n low
 
 -- data and the sums that are its parities are a stripe
 pub stripe_of : (code : Code) (ds ws : List (List ℕ)) (i : ℕ) → length ds ≡ data_count code → length ws ≡ 4 → ((f : ℕ) → f < length ds → bytes_at ds i f < 256)

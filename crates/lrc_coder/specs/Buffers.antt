@@ -10,12 +10,12 @@ abbrev pub read : List (Bor (List ℕ)) → List (List ℕ)
 read buffers = map (λ b. b.now) buffers
 
 -- what buffers hold that are written
-abbrev pub written : List (MutBor (List ℕ)) → List (List ℕ)
-written buffers = map (λ b. b.now) buffers
+abbrev pub written_buffers : List (MutBor (List ℕ)) → List (List ℕ)
+written_buffers buffers = map (λ b. b.now) buffers
 
 -- where buffers are that are written: the pointer and the name of each
-abbrev pub places : List (MutBor (List ℕ)) → List ((ℕ × ℕ) × ℕ)
-places buffers = map (λ b. (b.ref_ptr, b.ghost_name)) buffers
+abbrev pub buffer_addresses : List (MutBor (List ℕ)) → List ((ℕ × ℕ) × ℕ)
+buffer_addresses buffers = map (λ b. (b.ref_ptr, b.ghost_name)) buffers
 
 -- one buffer, empty if there is none of the number
 abbrev pub buffer_at : List (List ℕ) → ℕ → List ℕ

@@ -3,7 +3,7 @@ ghost use Rattle.lrc_code.specs.Codes.{fragment_count};
 ghost use Rattle.lrc_code.specs.Losses.{FragmentSet};
 ghost use Rattle.lrc_field.specs.Stripes.{Bytes, IsStripe, data_count, data_of, in_parity, sum_of};
 ghost use Rattle.lrc_field.specs.Recipes.{IsRecipe, read_by};
-ghost use Rattle.lrc_coder.specs.Buffers.{read, written, places, buffer_at, bytes_at, each_of, AreLong, IsSum};
+ghost use Rattle.lrc_coder.specs.Buffers.{read, written_buffers, buffer_addresses, buffer_at, bytes_at, each_of, AreLong, IsSum};
 ghost use Rattle.lrc_coder.specs.Coding.{AreCounted, AreEven, AreOwn, IsForeign, IsEncoded, IsRebuilt, IsEncodeRefusal, IsRebuildRefusal};
 
 use crate::CodingError;
@@ -24,10 +24,10 @@ pub fn encode(
     data_fragments: &[&[u8]],
     parities: &mut [&mut [u8]],
 ) -> Result<(), CodingError>
-    ensures encoded { OnOk result (IsEncoded code (read data_fragments.now) (written parities.old) (written parities.new)) }
-    ensures places { places parities.new ≡ places parities.old }
-    ensures lengths { map length (written parities.new) ≡ map length (written parities.old) }
-    ensures refused { IfErr result (λ e. IsEncodeRefusal code (read data_fragments.now) (written parities.old) e × (written parities.new ≡ written parities.old)) }
+    ensures encoded { OnOk result (IsEncoded code (read data_fragments.now) (written_buffers parities.old) (written_buffers parities.new)) }
+    ensures places { buffer_addresses parities.new ≡ buffer_addresses parities.old }
+    ensures lengths { map length (written_buffers parities.new) ≡ map length (written_buffers parities.old) }
+    ensures refused { IfErr result (λ e. IsEncodeRefusal code (read data_fragments.now) (written_buffers parities.old) e × (written_buffers parities.new ≡ written_buffers parities.old)) }
 {
     if data_fragments.len() + PARITIES != code.fragments() as usize || parities.len() != PARITIES {
         return Err(CodingError::Count);
@@ -45,10 +45,10 @@ fn check_lengths(
     data_fragments: &[&[u8]],
     parities: &[&mut [u8]],
 ) -> Result<(), CodingError>
-    requires { AreCounted code (read data_fragments.now) (written parities.now) }
-    ensures even { OnOk result (AreEven (read data_fragments.now ++ written parities.now) (fragment_count code)) }
+    requires { AreCounted code (read data_fragments.now) (written_buffers parities.now) }
+    ensures even { OnOk result (AreEven (read data_fragments.now ++ written_buffers parities.now) (fragment_count code)) }
     ensures bytes { OnOk result ((f i : ℕ) → f < length data_fragments.now → bytes_at (read data_fragments.now) i f < 256) }
-    ensures refused { IfErr result (IsEncodeRefusal code (read data_fragments.now) (written parities.now)) }
+    ensures refused { IfErr result (IsEncodeRefusal code (read data_fragments.now) (written_buffers parities.now)) }
 {
     for number in 0..code.fragments() {
         if length_of(data_fragments, parities, number as usize) != data_fragments[0].len() {
@@ -60,8 +60,8 @@ fn check_lengths(
 
 /// Returns the length of one of the buffers, of which the data come first.
 fn length_of(data_fragments: &[&[u8]], parities: &[&mut [u8]], number: usize) -> usize
-    requires { number < length (read data_fragments.now ++ written parities.now) }
-    ensures length { result ≡ length (buffer_at (read data_fragments.now ++ written parities.now) number) }
+    requires { number < length (read data_fragments.now ++ written_buffers parities.now) }
+    ensures length { result ≡ length (buffer_at (read data_fragments.now ++ written_buffers parities.now) number) }
     ensures bytes { number < length data_fragments.now → (i : ℕ) → bytes_at (read data_fragments.now) i number < 256 }
 {
     if number < data_fragments.len() {

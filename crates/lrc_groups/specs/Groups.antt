@@ -18,14 +18,14 @@ abbrev pub has_fault : List NodeInfo → FaultNo → Bool
 has_fault nodes d = list_any (λ n. same_fault n.fault d) nodes
 
 -- the number of a node that is named, or those of the nodes of a domain that is
-abbrev pub numbers_of : List NodeInfo → Named → List NodeNo
-numbers_of nodes (named.Node n) = n ∷ []
-numbers_of nodes (named.Fault d) = map (λ n. n.number) (nodes_in_fault nodes d)
-numbers_of nodes (named.Upgrade u) = map (λ n. n.number) (nodes_in nodes u)
+abbrev pub named_nodes : List NodeInfo → Named → List NodeNo
+named_nodes nodes (named.Node n) = n ∷ []
+named_nodes nodes (named.Fault d) = map (λ n. n.number) (nodes_in_fault nodes d)
+named_nodes nodes (named.Upgrade u) = map (λ n. n.number) (nodes_in nodes u)
 
 -- the numbers of all of them, one after the other
 abbrev pub numbers_in : List NodeInfo → List Named → List NodeNo
-numbers_in nodes all = flat_map (numbers_of nodes) all
+numbers_in nodes all = flat_map (named_nodes nodes) all
 
 -- a node has the number, or is in the domain
 abbrev pub has_named : List NodeInfo → Named → Bool

@@ -1,6 +1,6 @@
 ghost use Rattle.std.specs.Prelude.{◌≡◌, map, IfOk};
 ghost use Rattle.lrc_topology.specs.Nodes.{nodes_in};
-ghost use Rattle.lrc_groups.specs.Groups.{nodes_in_fault, has_fault, numbers_of, numbers_in, has_named, first_lacking};
+ghost use Rattle.lrc_groups.specs.Groups.{nodes_in_fault, has_fault, named_nodes, numbers_in, has_named, first_lacking};
 
 use crate::Named;
 use lrc_code::{FaultNo, NodeNo, UpgradeNo};
@@ -29,7 +29,7 @@ pub fn numbers_in(
 
 /// The number of a node that is named, or those of the nodes of a domain that is.
 fn numbers_of(alloc: Global, topology: &Topology, named: Named) -> Result<Vec<NodeNo>, AllocError>
-    ensures { IfOk result (λ numbers. numbers.items ≡ numbers_of topology.now named) }
+    ensures { IfOk result (λ numbers. numbers.items ≡ named_nodes topology.now named) }
 {
     match named {
         Named::Node(number) => [number].iter().copied().collect(alloc),

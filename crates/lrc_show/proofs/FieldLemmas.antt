@@ -8,7 +8,7 @@ use Rattle.lrc_code.specs.declared.codes.Code.TheVariants.{Wide, Narrow}
 use Rattle.lrc_code.specs.declared.numbers.Fragment.{Fragment}
 use Rattle.lrc_code.specs.Codes.{fragments, has_fragment}
 use Rattle.lrc_code.specs.Losses.{FragmentSet}
-use Rattle.lrc_text.specs.Texts.{spaced}
+use Rattle.lrc_text.specs.Texts.{spaced_words}
 use Rattle.lrc_show.specs.Shown.{fragments_field, members_of}
 
 -- ---- numbers with a space between
@@ -18,16 +18,16 @@ abbrev pub is_start : List Fragment → Bool
 is_start [] = true
 is_start (f ∷ fs) = false
 
-spaced-more : (words : List (List ℕ)) (word : List ℕ) → spaced (words ++ word ∷ []) ≡ spaced words ++ (codes " " ++ word)
-spaced-more words word = flat_map-append (λ w. codes " " ++ w) words (word ∷ []) ∙ ap (λ t. spaced words ++ t) (append-nil (codes " " ++ word))
+spaced-more : (words : List (List ℕ)) (word : List ℕ) → spaced_words (words ++ word ∷ []) ≡ spaced_words words ++ (codes " " ++ word)
+spaced-more words word = flat_map-append (λ w. codes " " ++ w) words (word ∷ []) ∙ ap (λ t. spaced_words words ++ t) (append-nil (codes " " ++ word))
 
 fields-more : (fs : List Fragment) (f : Fragment) → fragments_field (fs ++ f ∷ []) ≡ fragments_field fs ++ ((if is_start fs then [] else codes " ") ++ decimal f.value)
 fields-more [] f = append-nil (decimal f.value)
 fields-more (g ∷ gs) f =
     let words = map (λ (h : Fragment). decimal h.value) gs in
-    ap (λ t. decimal g.value ++ spaced t) (map-append (λ (h : Fragment). decimal h.value) gs (f ∷ []))
+    ap (λ t. decimal g.value ++ spaced_words t) (map-append (λ (h : Fragment). decimal h.value) gs (f ∷ []))
     ∙ ap (λ t. decimal g.value ++ t) (spaced-more words (decimal f.value))
-    ∙ sym (append_assoc (decimal g.value) (spaced words) (codes " " ++ decimal f.value))
+    ∙ sym (append_assoc (decimal g.value) (spaced_words words) (codes " " ++ decimal f.value))
 
 started : (fs : List Fragment) (f : Fragment) → is_start (fs ++ f ∷ []) ≡ false
 started [] f = refl

@@ -15,7 +15,7 @@ use Rattle.lrc_rules.specs.Repairs.{needs, kind, is_safe}
 use Rattle.lrc_rules.specs.Urgency.{work}
 use Rattle.lrc_rules.proofs.ListedLemmas.{work-listed}
 use Rattle.lrc_book.specs.Looks.{kind_shown}
-use Rattle.lrc_text.specs.Tables.{row_line}
+use Rattle.lrc_text.specs.Tables.{table_line}
 use Rattle.lrc_show.specs.Shown.{kind_word, lease_sources, reads, reads_field, fragments_field, standing_fields, work_row, work_rows}
 use Rattle.lrc_show.proofs.FieldLemmas.{own-all, texts-passing}
 use Rattle.lrc_show.proofs.ListLemmas.{flat-more}
@@ -47,7 +47,7 @@ module _ (nodes : List NodeInfo) (st : State) (s : StripeNo) where
       let same = (some-if (has_stripe st s && needs nodes st s f) (kind nodes st s f) k shown).1 in
       en ∙ ap (λ t. t ++ codes "\n") (ec ∙ ap (λ t. t ++ rest) (er ∙ ap (λ t. t ++ (codes "," ++ count k)) (eb ∙ ap (λ t. t ++ fragments_field (lease_sources k)) ea)))
       ∙ joined old (decimal s.value) (decimal f.value) (kind_word k) (fragments_field (lease_sources k)) (count k) rest (codes ",") (codes "\n")
-      ∙ ap (λ (j : Kind). old ++ row_line (decimal s.value ∷ decimal f.value ∷ kind_word j ∷ fragments_field (lease_sources j) ∷ count j ∷ standing_fields nodes st s f (lease_of st s f))) (sym same)
+      ∙ ap (λ (j : Kind). old ++ table_line (decimal s.value ∷ decimal f.value ∷ kind_word j ∷ fragments_field (lease_sources j) ∷ count j ∷ standing_fields nodes st s f (lease_of st s f))) (sym same)
 
   -- ---- the rows of a stripe
 

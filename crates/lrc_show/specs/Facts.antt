@@ -11,7 +11,7 @@ use Rattle.lrc_terms.specs.declared.lease.Lease.{Lease}
 use Rattle.lrc_terms.specs.Modes.{is_active, is_draining, is_gone}
 use Rattle.lrc_rules.specs.States.{State, code_of, load, mode_of, is_down, is_upgrading, is_online, homeless, missing, level}
 use Rattle.lrc_book.specs.Looks.{homes_on}
-use Rattle.lrc_text.specs.Tables.{row_line, mode_text, online_text}
+use Rattle.lrc_text.specs.Tables.{table_line, mode_text, online_text}
 use Rattle.lrc_show.specs.declared.nodes.NodeFacts.{NodeFacts}
 use Rattle.lrc_show.specs.declared.stripe_facts.StripeFacts.{StripeFacts}
 use Rattle.lrc_show.specs.Shown.{value_row, is_level}
@@ -59,7 +59,7 @@ node_facts st n = record {
 -- the row of a node with this many homes, and this many targets of leases
 abbrev pub node_line : NodeFacts → ℕ → ℕ → List ℕ
 node_line n homes targets =
-    row_line (decimal n.node.number.value ∷ decimal n.node.fault.value ∷ decimal n.node.upgrade.value ∷ mode_text n.mode ∷ online_text n.is_down
+    table_line (decimal n.node.number.value ∷ decimal n.node.fault.value ∷ decimal n.node.upgrade.value ∷ mode_text n.mode ∷ online_text n.is_down
     ∷ online_text n.is_upgrading ∷ online_text n.is_online ∷ decimal homes ∷ decimal targets ∷ decimal n.load ∷ decimal n.node.slots ∷ [])
 
 -- the row of a node, by what is read of it and all live leases

@@ -25,8 +25,8 @@ use Rattle.lrc_rules.specs.Urgency.{work, is_grantable}
 use Rattle.lrc_book.specs.Looks.{stripes_of, homes_on}
 use Rattle.lrc_forecast.specs.declared.outlook.Outlook.{Outlook}
 use Rattle.lrc_forecast.specs.Forecasts.{is_harmed}
-use Rattle.lrc_text.specs.Tables.{row_line, level_text, margin_field, mask_field, mode_text, online_text}
-use Rattle.lrc_text.specs.Texts.{seat_text, spaced}
+use Rattle.lrc_text.specs.Tables.{table_line, level_text, margin_field, mask_field, mode_text, online_text}
+use Rattle.lrc_text.specs.Texts.{seat_text, spaced_words}
 use Rattle.lrc_show.specs.declared.view.View.{View}
 use Rattle.lrc_show.specs.declared.view.View.TheVariants as view
 
@@ -39,7 +39,7 @@ hex_field bits = codes "0x" ++ mask_field bits
 -- words with a space between
 abbrev pub words_field : List (List ℕ) → List ℕ
 words_field [] = []
-words_field (word ∷ words) = word ++ spaced words
+words_field (word ∷ words) = word ++ spaced_words words
 
 -- the numbers of fragments, with a space between
 abbrev pub fragments_field : List Fragment → List ℕ
@@ -67,7 +67,7 @@ home_fields code of = map (λ f. home_field code f (of f.value)) (fragments Wide
 -- the row of a stripe with this code and level, these missing fragments, and these homes
 unfoldable pub stripe_line : StripeNo → Code → Level → FragmentSet → Homes → List ℕ
 stripe_line s code l m of =
-    row_line (decimal s.value ∷ code_name code ∷ level_text l ∷ margin_field (margin_of code m) ∷ set_fields code m ++ set_fields code (homeless_in code of) ++ home_fields code of)
+    table_line (decimal s.value ∷ code_name code ∷ level_text l ∷ margin_field (margin_of code m) ∷ set_fields code m ++ set_fields code (homeless_in code of) ++ home_fields code of)
 
 -- the row of a stripe
 abbrev pub shown_stripe : List NodeInfo → State → StripeNo → List ℕ
@@ -84,7 +84,7 @@ stripes_table nodes st =
 -- the row of a lease
 abbrev pub shown_lease : Lease → List ℕ
 shown_lease l =
-    row_line (decimal l.stripe.value ∷ decimal l.fragment.value ∷ decimal l.holder.value ∷ seat_text l.target ∷ decimal l.epoch ∷ decimal l.expiry ∷ [])
+    table_line (decimal l.stripe.value ∷ decimal l.fragment.value ∷ decimal l.holder.value ∷ seat_text l.target ∷ decimal l.epoch ∷ decimal l.expiry ∷ [])
 
 -- the live leases of a stripe, in rising order of fragment
 unfoldable pub leases_of : State → StripeNo → List Lease
@@ -108,7 +108,7 @@ target_count st n = count_by (λ l. same_node n l.target.node) (all_leases st)
 -- of live leases, and of all held seats; its slots
 abbrev pub shown_node : State → NodeInfo → List ℕ
 shown_node st n =
-    row_line (decimal n.number.value ∷ decimal n.fault.value ∷ decimal n.upgrade.value ∷ mode_text (mode_of st n.number) ∷ online_text (is_down st n.number)
+    table_line (decimal n.number.value ∷ decimal n.fault.value ∷ decimal n.upgrade.value ∷ mode_text (mode_of st n.number) ∷ online_text (is_down st n.number)
     ∷ online_text (is_upgrading st n) ∷ online_text (is_online st n) ∷ decimal (length (homes_on st n.number)) ∷ decimal (target_count st n.number) ∷ decimal (load st n.number) ∷ decimal n.slots ∷ [])
 
 -- a row for each node, in the order of the file
@@ -158,7 +158,7 @@ standing_fields nodes st s f None = unleased_word nodes st s f ∷ [] ∷ [] ∷
 -- the row of a fragment that needs a lease
 abbrev pub work_row : List NodeInfo → State → StripeNo → Fragment → List ℕ
 work_row nodes st s f =
-    row_line (decimal s.value ∷ decimal f.value ∷ kind_word (kind nodes st s f) ∷ fragments_field (lease_sources (kind nodes st s f))
+    table_line (decimal s.value ∷ decimal f.value ∷ kind_word (kind nodes st s f) ∷ fragments_field (lease_sources (kind nodes st s f))
     ∷ reads_field (reads (code_of st s) (is_safe nodes st s) (kind nodes st s f)) ∷ standing_fields nodes st s f (lease_of st s f))
 
 -- the rows of a stripe
@@ -198,7 +198,7 @@ domain_field None = codes "none"
 
 -- a row of a name and a value
 abbrev pub value_row : List ℕ → List ℕ → List ℕ
-value_row name value = row_line (name ∷ value ∷ [])
+value_row name value = table_line (name ∷ value ∷ [])
 
 -- how many stripes have each level
 unfoldable pub level_values : List NodeInfo → State → List ℕ
@@ -248,7 +248,7 @@ margin_at Lost = None
 -- the row of a stripe
 unfoldable pub forecast_row : Outlook → List ℕ
 forecast_row o =
-    row_line (decimal o.stripe.value ∷ code_name o.code ∷ level_text o.before ∷ margin_field (margin_at o.before) ∷ level_text o.after ∷ margin_field (margin_at o.after)
+    table_line (decimal o.stripe.value ∷ code_name o.code ∷ level_text o.before ∷ margin_field (margin_at o.before) ∷ level_text o.after ∷ margin_field (margin_at o.after)
     ∷ hex_field o.missing.bits ∷ fragments_field (members_of o.code (bits_set o.missing.bits)) ∷ decimal o.leases_ended ∷ online_text (is_harmed o) ∷ [])
 
 -- a row for each stripe

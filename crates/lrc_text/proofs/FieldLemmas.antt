@@ -17,7 +17,7 @@ use Rattle.lrc_book.specs.declared.Level.{Level}
 use Rattle.lrc_book.specs.declared.Level.TheVariants.{Whole, AtRisk, Unavailable, Lost}
 use Rattle.lrc_terms.specs.declared.mode.Mode.{Mode}
 use Rattle.lrc_terms.specs.declared.mode.Mode.TheVariants.{Active, Draining, Gone}
-use Rattle.lrc_text.specs.Tables.{row_line, level_text, margin_field, mask_field, risk_line, mode_text, online_text, load_line}
+use Rattle.lrc_text.specs.Tables.{table_line, level_text, margin_field, mask_field, risk_line, mode_text, online_text, load_line}
 
 -- the field is written as it is
 abbrev pub IsPlain : List ℕ → Type 0
@@ -60,7 +60,7 @@ fields_plain (f ∷ fs) all = rw (all.0, fields_plain fs all.1) refl
 
 -- a row of two fields at least
 pub row_plain : (first next : List ℕ) (fields : List (List ℕ)) → AllByRecursion IsPlain (first ∷ next ∷ fields)
-    → row_text default_writer (first ∷ next ∷ fields) ≡ row_line (first ∷ next ∷ fields)
+    → row_text default_writer (first ∷ next ∷ fields) ≡ table_line (first ∷ next ∷ fields)
 unfolding is_blank
 row_plain first next fields all = rw (all.0, fields_plain (next ∷ fields) all.1) (simp (append_assoc, append-nil))
 

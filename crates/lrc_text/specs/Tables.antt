@@ -15,9 +15,9 @@ use Rattle.lrc_rules.specs.Urgency.{risk}
 -- ---- rows
 
 -- the line of a row: its fields, with a comma before each but the first
-abbrev pub row_line : List (List ℕ) → List ℕ
-row_line [] = codes "\n"
-row_line (field ∷ fields) = field ++ flat_map (λ f. codes "," ++ f) fields ++ codes "\n"
+abbrev pub table_line : List (List ℕ) → List ℕ
+table_line [] = codes "\n"
+table_line (field ∷ fields) = field ++ flat_map (λ f. codes "," ++ f) fields ++ codes "\n"
 
 -- ---- stripes at risk
 
@@ -40,7 +40,7 @@ mask_field bits = map (λ place. digit_glyph false (bits / place % 16)) (4096 �
 -- the row of a stripe of this number, level and code, whose missing fragments are the bits of a number
 unfoldable pub risk_line : StripeNo → Level → Code → ℕ → List ℕ
 risk_line stripe level code missing =
-    row_line (decimal stripe.value ∷ level_text level ∷ margin_field (margin_of code (bits_set missing)) ∷ mask_field missing ∷ [])
+    table_line (decimal stripe.value ∷ level_text level ∷ margin_field (margin_of code (bits_set missing)) ∷ mask_field missing ∷ [])
 
 -- the row of a stripe at risk
 abbrev pub risk_row : List NodeInfo → State → StripeNo × Level → List ℕ
@@ -66,7 +66,7 @@ online_text false = codes "no"
 -- the row of a node with this mode and number of seats on it, online or not
 unfoldable pub load_line : NodeInfo → Mode → Bool → ℕ → List ℕ
 load_line node mode online seats =
-    row_line (decimal node.number.value ∷ mode_text mode ∷ online_text online ∷ decimal seats ∷ decimal node.slots ∷ [])
+    table_line (decimal node.number.value ∷ mode_text mode ∷ online_text online ∷ decimal seats ∷ decimal node.slots ∷ [])
 
 -- the row of a node
 abbrev pub load_row : State → NodeInfo → List ℕ

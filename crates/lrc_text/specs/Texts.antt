@@ -21,8 +21,8 @@ abbrev pub seat_text : Seat → List ℕ
 seat_text seat = decimal seat.node.value ++ codes ":" ++ decimal seat.slot
 
 -- words with a space before each
-abbrev pub spaced : List (List ℕ) → List ℕ
-spaced words = flat_map (λ word. codes " " ++ word) words
+abbrev pub spaced_words : List (List ℕ) → List ℕ
+spaced_words words = flat_map (λ word. codes " " ++ word) words
 
 -- the stripe, the fragment, the target and the epoch of a lease
 abbrev pub lease_text : Lease → List ℕ
@@ -30,8 +30,8 @@ lease_text lease = decimal lease.stripe.value ++ codes " " ++ decimal lease.frag
 
 -- how a leased fragment is rebuilt
 abbrev pub kind_text : Kind → List ℕ
-kind_text (Local sources) = codes "local" ++ spaced (map (λ f. decimal f.value) sources)
-kind_text (Local3 sources) = codes "local" ++ spaced (map (λ f. decimal f.value) sources)
+kind_text (Local sources) = codes "local" ++ spaced_words (map (λ f. decimal f.value) sources)
+kind_text (Local3 sources) = codes "local" ++ spaced_words (map (λ f. decimal f.value) sources)
 kind_text Global = codes "global"
 kind_text Move = codes "move"
 
@@ -57,8 +57,8 @@ refusal_text (refusal.NotEmpty load) = codes "117 " ++ decimal load
 
 -- what is printed of a reply
 abbrev pub reply_text : Reply → List ℕ
-reply_text (Placed seats) = codes "placed" ++ spaced (map seat_text seats)
-reply_text (Placed6 seats) = codes "placed" ++ spaced (map seat_text seats)
+reply_text (Placed seats) = codes "placed" ++ spaced_words (map seat_text seats)
+reply_text (Placed6 seats) = codes "placed" ++ spaced_words (map seat_text seats)
 reply_text Dropped = codes "dropped"
 reply_text (Granted lease kind) = codes "granted " ++ lease_text lease ++ codes " " ++ kind_text kind
 reply_text Idle = codes "idle"

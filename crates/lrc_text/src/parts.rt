@@ -4,7 +4,7 @@
 //! before that.
 
 ghost use Rattle.std.specs.Prelude.{◌≡◌, ◌+◌, ◌*◌, ◌<◌, ◌≤◌, ◌∷◌, ◌++◌, length, drop, codes, decimal, map};
-ghost use Rattle.lrc_text.specs.Texts.{seat_text, spaced, lease_text, kind_text};
+ghost use Rattle.lrc_text.specs.Texts.{seat_text, spaced_words, lease_text, kind_text};
 
 use crate::digits::write_below_1000;
 use lrc_book::{Kind, Lease, Seat};
@@ -101,7 +101,7 @@ fn write_seat(seat: &Seat, text: &mut [u8], end: usize) -> usize
 pub(crate) fn write_seats(seats: &[Seat], text: &mut [u8], end: usize) -> usize
     requires { (SEAT_ROOM * length seats.now ≤ end) × (end ≤ length text.old) }
     ensures start { (end ≤ result + SEAT_ROOM * length seats.now) × (result ≤ end) }
-    ensures written { drop result text.new ≡ spaced (map seat_text seats.now) ++ drop end text.old }
+    ensures written { drop result text.new ≡ spaced_words (map seat_text seats.now) ++ drop end text.old }
 {
     let mut left = seats.len();
     let mut at = end;
@@ -138,7 +138,7 @@ pub(crate) fn write_lease(lease: &Lease, text: &mut [u8], end: usize) -> usize
 fn write_sources(sources: &[Fragment], text: &mut [u8], end: usize) -> usize
     requires { (FRAGMENT_ROOM * length sources.now ≤ end) × (end ≤ length text.old) }
     ensures start { (end ≤ result + FRAGMENT_ROOM * length sources.now) × (result ≤ end) }
-    ensures written { drop result text.new ≡ spaced (map (λ f. decimal f.value) sources.now) ++ drop end text.old }
+    ensures written { drop result text.new ≡ spaced_words (map (λ f. decimal f.value) sources.now) ++ drop end text.old }
 {
     let mut left = sources.len();
     let mut at = end;
@@ -154,7 +154,7 @@ fn write_local<const N: usize>(sources: &[Fragment; N], text: &mut [u8], end: us
     requires few { N ≤ 6 }
     requires room { (KIND_ROOM ≤ end) × (end ≤ length text.old) }
     ensures start { (end ≤ result + KIND_ROOM) × (result ≤ end) }
-    ensures written { drop result text.new ≡ (codes " local" ++ spaced (map (λ f. decimal f.value) sources.now)) ++ drop end text.old }
+    ensures written { drop result text.new ≡ (codes " local" ++ spaced_words (map (λ f. decimal f.value) sources.now)) ++ drop end text.old }
 {
     let start = write_sources(sources.as_slice(), text, end);
     write_words(b" local", text, start)

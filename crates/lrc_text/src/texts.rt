@@ -6,7 +6,7 @@
 ghost use Rattle.std.specs.Prelude.{◌≡◌, ◌+◌, ◌*◌, ◌^◌, ◌<◌, ◌≤◌, ◌++◌, length, drop, OnOk, codes, decimal, map};
 ghost use Rattle.lrc_rules.specs.declared.reply.Reply.TheVariants.{Granted, Refused, Ticked};
 ghost use Rattle.lrc_answers.specs.Answers.{lent};
-ghost use Rattle.lrc_text.specs.Texts.{seat_text, spaced, reply_text, reply_line, lines_from, script_line};
+ghost use Rattle.lrc_text.specs.Texts.{seat_text, spaced_words, reply_text, reply_line, lines_from, script_line};
 
 use crate::digits::Digits;
 use crate::parts::{write_kind, write_lease, write_seats, write_u32, write_words};
@@ -96,7 +96,7 @@ fn write_placed<const N: usize>(seats: &[Seat; N], text: &mut [u8], end: usize) 
     requires few { N ≤ 16 }
     requires room { (REPLY_ROOM ≤ end) × (end ≤ length text.old) }
     ensures start { (end ≤ result + REPLY_ROOM) × (result ≤ end) }
-    ensures written { drop result text.new ≡ (codes " placed" ++ (spaced (map seat_text seats.now) ++ codes "\n")) ++ drop end text.old }
+    ensures written { drop result text.new ≡ (codes " placed" ++ (spaced_words (map seat_text seats.now) ++ codes "\n")) ++ drop end text.old }
 {
     let last = write_words(b"\n", text, end);
     let first = write_seats(seats.as_slice(), text, last);

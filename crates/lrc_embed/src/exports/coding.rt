@@ -1,7 +1,7 @@
 //! The codes over buffers: parities are made, and fragments rebuilt.
 
 ghost use Rattle.std.specs.Prelude.{◌≡◌, ◌≢◌, ◌↔◌, ◌∷◌, [], length, map};
-ghost use Rattle.lrc_coder.specs.Buffers.{read, written, places};
+ghost use Rattle.lrc_coder.specs.Buffers.{read, written_buffers, buffer_addresses};
 ghost use Rattle.lrc_coder.specs.Coding.{AreCounted, IsEncoded, IsRebuilt};
 ghost use Rattle.lrc_code.specs.Codes.{fragment_count};
 ghost use Rattle.lrc_embed.specs.Recipes.{AtCode, IsNoCode};
@@ -22,15 +22,15 @@ pub extern "C" fn lrc_embed_encode(
 ) -> u32
     ensures range { (result ≡ OUT_OF_RANGE) ↔ IsNoCode code }
     ensures done { (result ≡ DONE) → AtCode code (λ c.
-        IsEncoded c (read data_fragments.now) (written parities.old) (written parities.new)) }
+        IsEncoded c (read data_fragments.now) (written_buffers parities.old) (written_buffers parities.new)) }
     ensures miscounted { (result ≡ MISCOUNTED) → AtCode code (λ c.
-        ¬ AreCounted c (read data_fragments.now) (written parities.old)) }
+        ¬ AreCounted c (read data_fragments.now) (written_buffers parities.old)) }
     ensures uneven { (result ≡ UNEVEN) → AtCode code (λ c.
-        IsUneven c (read data_fragments.now) (written parities.old)) }
+        IsUneven c (read data_fragments.now) (written_buffers parities.old)) }
     ensures statuses { IsOneOf result (DONE ∷ OUT_OF_RANGE ∷ MISCOUNTED ∷ UNEVEN ∷ []) }
-    ensures places { places parities.new ≡ places parities.old }
-    ensures lengths { map length (written parities.new) ≡ map length (written parities.old) }
-    ensures unwritten { (result ≢ DONE) → written parities.new ≡ written parities.old }
+    ensures places { buffer_addresses parities.new ≡ buffer_addresses parities.old }
+    ensures lengths { map length (written_buffers parities.new) ≡ map length (written_buffers parities.old) }
+    ensures unwritten { (result ≢ DONE) → written_buffers parities.new ≡ written_buffers parities.old }
 {
     let Some(code) = code_of(code) else {
         return OUT_OF_RANGE;
