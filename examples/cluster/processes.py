@@ -7,9 +7,12 @@ import shutil
 import signal
 import socket
 import subprocess
+import sys
 import time
 
-from lrcmand_client import Client
+HERE = os.path.dirname(os.path.abspath(__file__))
+sys.path.append(os.path.join(os.path.dirname(os.path.dirname(HERE)), "service/client"))
+from lrcmand_client import Client  # noqa: E402
 
 # A wide stripe takes 16 racks, and one more for each that is lost. With 18, and 12 upgrade domains, each stripe finds its seats
 # also while a rack is gone or a domain is upgrading.

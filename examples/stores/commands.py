@@ -1,7 +1,9 @@
 """The module of the library, the rules of logs, and commands from their words: what the stores in Python share."""
+import os
 import sys
 
 sys.dont_write_bytecode = True
+sys.path.append(os.path.join(os.path.dirname(os.path.abspath(__file__)), os.pardir, "embed"))
 import lrc_embed
 
 # The fields that follow each word; a node follows the others.

@@ -64,9 +64,7 @@ def tree():
 
 
 def kind_of(path):
-    """The ending of a file whose text counts, or None; a script of Python needs none. What is a link counts where it stands."""
-    if os.path.islink(path):
-        return None
+    """The ending of a file whose text counts, or None; a script of Python needs none."""
     ending = os.path.splitext(path)[1]
     if ending in (".rt", ".antt", ".edit", ".h", ".go", ".py", ".md"):
         return ending

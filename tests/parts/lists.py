@@ -99,9 +99,9 @@ def is_below(path, found):
 
 
 def naming(pattern):
-    """The files of the repository that name something, but for links."""
+    """The files of the repository that name something."""
     named = re.compile(pattern.encode())
-    return [path for path in parts.files() if not os.path.islink(f"{TOP}/{path}") and named.search(harness.read(f"{TOP}/{path}"))]
+    return [path for path in parts.files() if named.search(harness.read(f"{TOP}/{path}"))]
 
 
 def test_lists(count):

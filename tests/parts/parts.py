@@ -15,6 +15,7 @@ from tests.proofs import clauses
 from tests.proofs.clauses import TOP, text_of
 
 TABLE = f"{TOP}/tests/parts/parts.toml"
+RUNS = re.compile(r'__file__\)\), "(\.\./tests/[\w/]+)"\)')  # in a command that runs another one
 # What stands for a built file in a command, and the crate that it is built of.
 BUILT = {"PROGRAM": "lrcman", "PROVED": "lrcman", "PROBES": "probes", "LIBRARY": "lrc_embed"}
 
@@ -128,16 +129,20 @@ def imports(path):
 
 @functools.cache
 def followed(path):
-    """A command or module, and the modules that it imports, and so on. A command may be a link beside its module."""
+    """A command or module, and the modules that it imports, and so on. A command stands beside its module, or runs another one."""
     found, left = set(), [path]
     while left:
         it = left.pop()
         if it not in found:
             found.add(it)
-            if os.path.islink(f"{TOP}/{it}"):
-                left.append(os.path.normpath(os.path.join(os.path.dirname(it), os.readlink(f"{TOP}/{it}"))))
-            left += [f"{it}.py"] if os.path.isfile(f"{TOP}/{it}.py") else imports(it) if it.endswith(".py") else []
-    return found - {"tools/launch"}
+            left += [f"{it}.py"] if os.path.isfile(f"{TOP}/{it}.py") else imports(it) if it.endswith(".py") else run_by(it)
+    return found
+
+
+def run_by(path):
+    """The command that a command of a few lines runs."""
+    found = RUNS.search(text_of(f"{TOP}/{path}")) if os.path.isfile(f"{TOP}/{path}") else None
+    return [os.path.normpath(os.path.join(os.path.dirname(path), found[1]))] if found else []
 
 
 @functools.cache

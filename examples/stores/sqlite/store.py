@@ -8,11 +8,13 @@ input is a request, `TOKEN SESSION COMMAND`, and gets a line: `TOKEN NUMBER REPL
 `TOKEN not kept: WHY` if the log failed. A request that comes again with its token gets the reply that it got, so whoever
 does not know what became of a request sends it again."""
 import ctypes
+import os
 import sqlite3
 import sys
 import zlib
 
 sys.dont_write_bytecode = True
+sys.path.append(os.path.join(os.path.dirname(os.path.abspath(__file__)), os.pardir))
 from commands import lrc_embed, refusal_of, request_of
 
 PIECE = 10_000  # the most records that are replayed at a time

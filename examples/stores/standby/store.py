@@ -17,6 +17,8 @@ import sys
 import zlib
 
 sys.dont_write_bytecode = True
+HERE = os.path.dirname(os.path.abspath(__file__))
+sys.path += [HERE, os.path.join(HERE, os.pardir)]
 import pq
 from commands import lrc_embed, refusal_of, request_of
 

@@ -1,1 +1,0 @@
-../../service/client/lrcmand_client.py

@@ -1,1 +1,0 @@
-../../embed/lrc_embed.py
