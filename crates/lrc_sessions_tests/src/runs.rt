@@ -41,8 +41,8 @@ const NODE: NodeNo = NodeNo { value: 3 };
 
 const TARGET: NodeNo = NodeNo { value: 17 };
 
-/// The most looks of a held call at what it waits for.
-const TURNS: u32 = 100_000_000;
+/// The most looks of a held call at what it waits for: some seconds, since on a busy machine a thread may begin late.
+const TURNS: u32 = 3_000_000_000;
 
 /// The most entries of a history.
 const LIMIT: u32 = 1_000_000;
