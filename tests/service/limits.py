@@ -353,6 +353,7 @@ def test_fuzz(count, program, room, nodes, requests=20000, limit=25):
         count.check(f"descriptors: {before}, and then {alone.descriptors()}", alone.descriptors() <= before + 5)
         grown = alone.status_file("VmRSS") - memory
         count.check(f"memory grew by {grown} kB", grown < 100_000)
+        alone.asker.close()  # (the member may have closed a connection that was idle for so long)
         status, _, text = alone.asker.ask(port, "GET", "/books?now=1")
         count.check(f"a look after all: {status} {text[:200]}", status == 200)
 
