@@ -1,7 +1,7 @@
 -- Reading and writing the flags of words.
-use Rattle.std.proofs.Common.{bit_and, bit_or, subst, min, ◌-◌, ◌≡◌, ◌≢◌, ℕ, zero, suc, ◌+◌, ◌*◌, ◌/◌, ◌%◌, ◌^◌, ◌<◌, ◌≤◌, Bool, true, false, eqb, List, [], ◌∷◌, length, get_or, set, replicate, arith, refl, sym, ap, ◌∙◌, inl, inr, w64}
+use Rattle.std.proofs.Common.{bit_and, bit_or, subst, min, ◌-◌, ◌≡◌, ◌≢◌, ℕ, zero, suc, ◌+◌, ◌*◌, ◌/◌, ◌%◌, ◌^◌, ◌<◌, ◌≤◌, Bool, true, false, cond, eqb, List, [], ◌∷◌, length, get_or, set, replicate, arith, refl, sym, ap, ◌∙◌, inl, inr, w64}
 use Rattle.std.proofs.Math.ListN.{length-set}
-use Rattle.std.proofs.lemmas.Bool.{cases_eq, cases_lt, eq-eqb, eqb-true}
+use Rattle.std.proofs.lemmas.Bool.{cases_eq, cases_lt, eq-eqb, ne_eqb, eqb-true}
 use Rattle.std.proofs.lemmas.List.{length-replicate, ext_get_or, get_or_past, get_or-set_same, get_or-set_other}
 use Rattle.std.proofs.lemmas.List.FromFn.{length-map-range_with_len, get_or-map-range_with_len}
 use Rattle.std.proofs.lemmas.Nat.Bits.{shr_and_one, bit_at-zero, bit_at_set_same, bit_at_set_other, bit_at_clear_same, bit_at_clear_other, bit_at_ones, bit_at-trailing_ones, bit_at_and, bit_at_not, bit_at-lt}
@@ -132,15 +132,37 @@ at_word words i t small =
 pub read : (words : List ℕ) (xs : List Bool) (k : ℕ) → flags words ≡ xs → get_or xs k false ≡ flag words k
 read words xs k view = ap (λ ys. get_or ys k false) (sym view) ∙ get_or-flags words k
 
+-- the bits of one word
+pub word-bits : (words : List ℕ) (xs : List Bool) (i k : ℕ) → flags words ≡ xs → k < 64 → eqb (bit_at (get_or words i 0) k) 1 ≡ get_or xs (64 * i + k) false
+word-bits words xs i k view small =
+    let place : 64 * i + k ≡ i * 64 + k = omega arith in
+    sym (read words xs (64 * i + k) view ∙ (ap (flag words) place ∙ at_word words i k small))
+
+-- another word in a word's place leaves the length
+pub flags-length_set : (words : List ℕ) (xs : List Bool) (i w : ℕ) → flags words ≡ xs → length (flags (set words i w)) ≡ length xs
+flags-length_set words xs i w view =
+    length-flags (set words i w) ∙ (ap (λ n. 64 * n) (length-set words i w) ∙ (sym (length-flags words) ∙ ap length view))
+
+-- and has its bits for flags
+pub flags-put_word : (words : List ℕ) (xs : List Bool) (i w : ℕ) → flags words ≡ xs → i < length words → (k : ℕ)
+    → get_or (flags (set words i w)) k false ≡ cond (eqb (k / 64) i) (eqb (bit_at w (k % 64)) 1) (get_or xs k false)
+flags-put_word words xs i w view within k = get_or-flags (set words i w) k ∙ elim (cases_eq (k / 64) i) [
+  | inl here ↦
+      ap (λ j. eqb (bit_at (get_or (set words i w) j 0) (k % 64)) 1) here
+      ∙ (ap (λ x. eqb (bit_at x (k % 64)) 1) (get_or-set_same words i w 0 within)
+      ∙ ap (λ b. cond b (eqb (bit_at w (k % 64)) 1) (get_or xs k false)) (sym (eq-eqb (k / 64) i here)))
+  | inr other ↦
+      ap (λ x. eqb (bit_at x (k % 64)) 1) (get_or-set_other words i (k / 64) w 0 other)
+      ∙ (sym (read words xs k view) ∙ ap (λ b. cond b (eqb (bit_at w (k % 64)) 1) (get_or xs k false)) (sym (ne_eqb (k / 64) i other)))
+]
+
 -- the flags of one word, as a set of its own
 pub alone-word : (words : List ℕ) (xs : List Bool) (i k : ℕ) → flags words ≡ xs → k < 64
     → get_or (flags (get_or words i 0 ∷ [])) k false ≡ get_or xs (64 * i + k) false
 alone-word words xs i k view small =
     let word = get_or words i 0 in
-    let place : 64 * i + k ≡ i * 64 + k = omega arith in
     let own : 0 * 64 + k ≡ k = omega arith in
-    get_or-flags (word ∷ []) k
-    ∙ (ap (flag (word ∷ [])) (sym own) ∙ at_word (word ∷ []) 0 k small ∙ sym (read words xs (64 * i + k) view ∙ (ap (flag words) place ∙ at_word words i k small)))
+    get_or-flags (word ∷ []) k ∙ (ap (flag (word ∷ [])) (sym own) ∙ at_word (word ∷ []) 0 k small ∙ word-bits words xs i k view small)
 
 -- what holds for all earlier words, and for the bits of a word below `t`, holds for all numbers below that bit
 pub in_word : (P : ℕ → Type 0) (i t : ℕ) → t ≤ 64 → ((j : ℕ) → j < 64 * i → P j) → ((b : ℕ) → b < t → P (i * 64 + b)) → (j : ℕ)

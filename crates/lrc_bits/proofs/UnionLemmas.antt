@@ -28,7 +28,7 @@ and-same true = refl
 and-same false = refl
 
 -- a flag of the intersection of two words is a flag of both
-and_flag : (a b t : ℕ) → eqb (bit_at (bit_and a b) t) 1 ≡ (eqb (bit_at a t) 1 && eqb (bit_at b t) 1)
+pub and_flag : (a b t : ℕ) → eqb (bit_at (bit_and a b) t) 1 ≡ (eqb (bit_at a t) 1 && eqb (bit_at b t) 1)
 and_flag a b t =
     let both = bit_at_and a b t in
     let p = bit_at-lt a t in
@@ -56,8 +56,18 @@ flags-common new old ones others xs ys us vs a b c d same also each k =
           rw (get_or_past new (k / 64) 0 p, get_or_past old (k / 64) 0 past, get_or_past ones (k / 64) 0 q, bit_at-zero (k % 64)) refl
     ])
 
+-- a flag of the numbers that a word lacks
+pub not_flag : (b t : ℕ) → b < 2 ^ 64 → t < 64 → eqb (bit_at (2 ^ 64 - 1 - b) t) 1 ≡ not (eqb (bit_at b t) 1)
+not_flag b t small within =
+    let turned : bit_at (2 ^ 64 - 1 - b) t ≡ 1 - bit_at b t = bit_at_not w64 b t small within in
+    let q = bit_at-lt b t in
+    elim (cases_eq (bit_at b t) 1) [
+      | inl one ↦ rw (turned, one) refl
+      | inr off ↦ let none : bit_at b t ≡ 0 = omega (arith, off, q) in rw (turned, none) refl
+    ]
+
 -- a flag of `a` without `b` is a flag of `a` and not of `b`
-and_not_flag : (a b t : ℕ) → b < 2 ^ 64 → t < 64 → eqb (bit_at (bit_and a (2 ^ 64 - 1 - b)) t) 1 ≡ (eqb (bit_at a t) 1 && not (eqb (bit_at b t) 1))
+pub and_not_flag : (a b t : ℕ) → b < 2 ^ 64 → t < 64 → eqb (bit_at (bit_and a (2 ^ 64 - 1 - b)) t) 1 ≡ (eqb (bit_at a t) 1 && not (eqb (bit_at b t) 1))
 and_not_flag a b t small within =
     let both = bit_at_and a (2 ^ 64 - 1 - b) t in
     let turned : bit_at (2 ^ 64 - 1 - b) t ≡ 1 - bit_at b t = bit_at_not w64 b t small within in

@@ -1,13 +1,11 @@
 -- The store of a state is that of any alike state.
-use Rattle.std.proofs.Common.{◌≡◌, ℕ, true, false, ◌&&◌, List, map, refl, sym, ◌∙◌}
+use Rattle.std.proofs.Common.{◌≡◌, true, false, ◌&&◌, List, map, refl, sym, ◌∙◌}
 use Rattle.std.proofs.Math.Path.{fun_ext}
 use Rattle.std.specs.Option.{option_map_or}
 use Rattle.lrc_code.specs.declared.numbers.UpgradeNo.{UpgradeNo}
 use Rattle.lrc_code.specs.Numbers.{same_upgrade}
 use Rattle.lrc_topology.specs.declared.NodeInfo.{NodeInfo}
 use Rattle.lrc_topology.specs.Nodes.{node_at}
-use Rattle.lrc_stripes.specs.Tables.{stored_in}
-use Rattle.lrc_leases.specs.Tables.{leased_in}
 use Rattle.lrc_rules.specs.States.{State, takes_seats}
 use Rattle.lrc_terms.specs.Modes.{is_active}
 use Rattle.lrc_rules.specs.Steps.{without_upgrading}
@@ -52,12 +50,12 @@ module _ (nodes : List NodeInfo) (w v : State) (alike : AreAlike w v) (seated : 
       let down = alike-down w v alike n.number in
       λ i. record { node = n; mode = mode i; is_down = down i; is_upgrading = option_map_or (λ (u : UpgradeNo). same_upgrade u n.upgrade) (alike.upgrading i) false }
 
-  alike-stored : (spare : ℕ) → stored_of nodes w spare ≡ stored_of nodes v spare
-  alike-stored spare =
+  alike-stored : stored_of nodes w ≡ stored_of nodes v
+  alike-stored =
       let stripes = alike-there w v alike in
       let code = alike-code w v alike in
       let homes = alike-homes nodes w v alike seated seated' in
-      λ i. record { nodes = map (λ n. alike-state n i) nodes; stripes = stripes i; code = code i; homes = homes i; spare = spare }
+      λ i. record { nodes = map (λ n. alike-state n i) nodes; stripes = stripes i; code = code i; homes = homes i }
 
 pub alike-kept : (w v : State) (k : Store) → AreAlike w v → AreSeated k.topology v → IsOf w k → IsOf v k
 alike-kept w v k alike seated kept =
@@ -67,8 +65,8 @@ alike-kept w v k alike seated kept =
       seated = seated;
       apart = λ n gone. sym (alike-draining w v alike n) ∙ kept.apart n (alike-gone w v alike n ∙ gone);
       table_is = kept.table_is ∙ alike-table nodes w v alike kept.seated seated;
-      stripes_is = kept.stripes_is ∙ alike-stored nodes w v alike kept.seated seated (stored_in k.stripes).spare;
-      leases_is = kept.leases_is ∙ (λ i. record { leases = leases i; spare = (leased_in k.leases).spare });
+      stripes_is = kept.stripes_is ∙ alike-stored nodes w v alike kept.seated seated;
+      leases_is = kept.leases_is ∙ (λ i. record { leases = leases i; spare = 0 });
       upgrading_is = kept.upgrading_is ∙ alike.upgrading;
       domains_are = kept.domains_are;
       clock_is = kept.clock_is ∙ alike.clock;

@@ -8,7 +8,6 @@ use Rattle.lrc_code.specs.declared.codes.Code.TheVariants.{Wide}
 use Rattle.lrc_code.specs.declared.numbers.StripeNo.{StripeNo}
 use Rattle.lrc_code.specs.declared.numbers.Fragment.{Fragment}
 use Rattle.lrc_code.specs.Codes.{fragments}
-use Rattle.lrc_code.proofs.NumbersLemmas.{equal_fragments}
 use Rattle.lrc_topology.specs.declared.seat.Seat.{Seat}
 use Rattle.lrc_terms.specs.Levels.{homes_of, homes_if}
 use Rattle.lrc_terms.specs.declared.lease.Lease.{Lease}
@@ -28,10 +27,6 @@ use Rattle.lrc_images.specs.Rows.{stripe_row, row_of_grants, grant_row, lease_ro
 
 pub item-number : (items : List Fragment) (i : ℕ) (d : Fragment) → items ≡ fragments Wide → i < 16 → (get_or items i d).value ≡ i
 item-number items i d all within = rw all (fragment-number i d within)
-
--- the fragment of a number comes at the place of this number
-pub item-at : (items : List Fragment) (f d : Fragment) → items ≡ fragments Wide → get_or items f.value d ≡ f
-item-at items f d all = equal_fragments (get_or items f.value d) f (item-number items f.value d all f.in_range)
 
 -- a list with the value of each fragment at its number
 pub by-fragment : (counts : List ℕ) (value : Fragment → ℕ) → length counts ≡ 16 → ((f : Fragment) → get_or counts f.value 0 ≡ value f) → counts ≡ map value (fragments Wide)

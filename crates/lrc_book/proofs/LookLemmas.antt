@@ -85,7 +85,7 @@ module _ (st : State) (k : Store) (kept : IsOf st k) (s : StripeNo) where
   absent-by true is = absurd (cc)
 
   mask-kept : needs_shown (stored_in k.stripes) s ≡ needs_if (has_stripe st s) (code_of st s) (drains_at k.topology st) (homes_of st.homes s)
-  mask-kept = ap (λ (t : Stored). needs_shown t s) kept.stripes_is ∙ needs-kept k.topology st (stored_in k.stripes).spare s
+  mask-kept = ap (λ (t : Stored). needs_shown t s) kept.stripes_is ∙ needs-kept k.topology st s
 
   pub mask-absent : None ≡ needs_shown (stored_in k.stripes) s → has_stripe st s ≡ false
   unfolding needs_if masked
@@ -133,7 +133,7 @@ module _ (nodes : List NodeInfo) (st : State) (s : StripeNo) (f : Fragment) wher
 
 -- ---- the work list
 
-module _ (nodes : List NodeInfo) (st : State) (spare : ℕ) (stripes : List StripeNo) (are : AreWork (stored_of nodes st spare) stripes) where
+module _ (nodes : List NodeInfo) (st : State) (stripes : List StripeNo) (are : AreWork (stored_of nodes st) stripes) where
   works-from : (s : StripeNo) → has_some (code_of st s) (needs_in (code_of st s) (drains_at nodes st) (homes_of st.homes s)) ≡ true → has_work nodes st s ≡ true
   works-from s some =
       let code = code_of st s in
@@ -149,10 +149,10 @@ module _ (nodes : List NodeInfo) (st : State) (spare : ℕ) (stripes : List Stri
       let test = has_work nodes st in
       strict-in_order (comes_first ranks) (stripe-order ranks) (stripe-ties ranks) (filter test st.stripes) stripes
       (AllPairs-filter (λ s t. s ≢ t) test st.stripes distinct)
-      (subst (λ (by : StripeNo → ℕ). AllPairs (λ r t. comes_first by r t ≡ true) stripes) (rank-kept nodes st spare) are.rising)
-      (λ s here. let at = filter-member test st.stripes s here in (are.each s).1 (has-work nodes st spare s at.0 at.1))
+      (subst (λ (by : StripeNo → ℕ). AllPairs (λ r t. comes_first by r t ≡ true) stripes) (rank-kept nodes st) are.rising)
+      (λ s here. let at = filter-member test st.stripes s here in (are.each s).1 (has-work nodes st s at.0 at.1))
       (λ s here.
-      let parts = and_parts (has_stripe st s) _ (sym (work-kept nodes st spare s) ∙ (are.each s).0 here) in
+      let parts = and_parts (has_stripe st s) _ (sym (work-kept nodes st s) ∙ (are.each s).0 here) in
       member-filter test st.stripes s (stripe-there st s parts.0) (works-from s parts.1))
 
 -- ---- the homes on a node
@@ -189,10 +189,10 @@ places-all : (p : StripeFragment) → Contains places p
 places-all p = fragments-from opening stripe_numbers p (lt-ltb p.1.value 16 p.1.in_range) (every-number p.0)
 
 -- what is kept lists the homes on a node as the state does
-pub homes-is : (nodes : List NodeInfo) (st : State) (spare : ℕ) (n : NodeNo) (listed : List StripeFragment) → AreHomesOn (stored_of nodes st spare) n listed
+pub homes-is : (nodes : List NodeInfo) (st : State) (n : NodeNo) (listed : List StripeFragment) → AreHomesOn (stored_of nodes st) n listed
     → listed ≡ homes_on st n
 unfolding homes_on
-homes-is nodes st spare n listed are =
+homes-is nodes st n listed are =
     let test = is_home_on st n in
     strict-same (is_repaired_before one_rank) (fragment-order one_rank) (fragment-ties one_rank) listed (filter test places) are.rising
     (AllPairs-filter (λ p q. is_repaired_before one_rank p q ≡ true) test places places-strict)

@@ -42,20 +42,6 @@ kept_push k next counts counts_next cursor cursor_next limit base h e kept room 
   limited = kept.limited;
 }
 
--- and so does more room
-pub kept_room : (k next : Store) (counts : List ℕ) (cursor : RepairCursor) (limit : ℕ) (base : World) (h same_h : List Entry) → IsKept k counts cursor limit base h
-    → same_h ≡ h → next.topology ≡ k.topology → ((st : State) → IsOf st k → IsOf st next) → IsKept next counts cursor limit base same_h
-kept_room k next counts cursor limit base h same_h kept entries same rest =
-    subst (λ (xs : List Entry). IsKept next counts cursor limit base xs) (sym entries) (record {
-      based = subst (λ ns. IsBase ns base) (sym same) kept.based;
-      cursor_is = subst (λ ns. IsRepairCursor ns (state_from ns base h) cursor) (sym same) kept.cursor_is;
-      store_is = subst (λ ns. IsOf (state_from ns base h) next) (sym same) (rest (state_from k.topology base h) kept.store_is);
-      counted = kept.counted;
-      legal = subst (λ ns. IsLegalFrom ns base h) (sym same) kept.legal;
-      few = kept.few;
-      limited = kept.limited;
-    })
-
 -- the clock of a book with room can still be moved on
 pub clock-early : (store : Store) (counts : List ℕ) (cursor : RepairCursor) (limit : ℕ) (base : World) (h : List Entry) → IsKept store counts cursor limit base h
     → length h < limit → store.clock.value < 4294967292

@@ -43,7 +43,6 @@ pub struct Book {
 impl Model for Book {
     ghost use Rattle.std.specs.Prelude.{◌+◌, ◌&&◌, nat_le, is_some, vec_len, vec_capacity};
     ghost use Rattle.lrc_book.specs.Books.{BookView, base_world, entries_before};
-    ghost use Rattle.lrc_store.specs.Stores.{has_room};
     ghost use Rattle.lrc_book.specs.Kept.{IsKept};
 
     ghost Value = { BookView };
@@ -54,7 +53,7 @@ impl Model for Book {
       before = entries_before b.base;
       limit = b.limit;
       history = b.history.items;
-      ready = nat_le (vec_len b.history + 1) (vec_capacity b.history) && (has_room b.store.value && is_some b.seats);
+      ready = nat_le (vec_len b.history + 1) (vec_capacity b.history) && is_some b.seats;
     } };
 
     ghost invariant = { λ b. IsKept b.store.value b.grants b.repair_cursor b.limit (base_world b.base) b.history.items };

@@ -8,7 +8,7 @@ ghost use Rattle.lrc_rules.specs.States.{State};
 ghost use Rattle.lrc_rules.specs.Steps.{step};
 ghost use Rattle.lrc_rules.specs.Histories.{world_from, state_from, outcome_in};
 ghost use Rattle.lrc_book.specs.Books.{IsStep, ChangesTheseAlone, world_of, base_world};
-ghost use Rattle.lrc_store.specs.Stores.{IsOf, AreFew, has_room};
+ghost use Rattle.lrc_store.specs.Stores.{IsOf, AreFew};
 ghost use Rattle.lrc_store.specs.Repairing.{IsRepairCursor};
 ghost use Rattle.lrc_book.specs.Kept.{IsKept};
 
@@ -60,7 +60,6 @@ impl Book {
         ensures err { IfErr result (λ e. e ≡ fault.OutOfMemory) }
     {
         self.history.reserve(1)?;
-        self.store.reserve()?;
         if self.seats.is_none() {
             self.seats = Some(room_for_seats(*self.history.allocator())?);
         }
@@ -126,7 +125,6 @@ fn enter(
 )
     requires kept { IsOf (state_from store.old.topology (base_world base.now) history.old.items) store.old }
     requires few { AreFew grants.old }
-    requires room { has_room store.old ≡ true }
     requires reserved { vec_len history.old < vec_capacity history.old }
     requires step { (outcome_in store.old.topology (world_from store.old.topology (base_world base.now) history.old.items) made.session made.command).0 ≡ made.reply }
     requires early { store.old.clock.value < 4294967292 }
@@ -141,7 +139,7 @@ fn enter(
     make(store, grants, cursor, base, past, last);
 }
 
-/// Makes the change of the entry `made`, which comes next after the entries `past`. There must be room for it.
+/// Makes the change of the entry `made`, which comes next after the entries `past`.
 #[inline(always)] // a step that changes nothing then makes no call here
 fn make(
     store: &mut Store,
@@ -155,7 +153,6 @@ fn make(
     requires state { state_from store.old.topology (base_world base.now) past.now ≡ st }
     requires kept { IsOf st store.old }
     requires few { AreFew grants.old }
-    requires room { has_room store.old ≡ true }
     requires step { (outcome_in store.old.topology (world_from store.old.topology (base_world base.now) past.now) made.now.session made.now.command).0 ≡ made.now.reply }
     requires early { store.old.clock.value < 4294967292 }
     ensures nodes { store.new.topology ≡ store.old.topology }

@@ -3,6 +3,7 @@ use Rattle.std.proofs.Common.{◌≡◌, ◌≢◌, ℕ, ◌-◌, ◌<◌, ◌�
 use Rattle.std.proofs.Math.ListN.{length-set}
 use Rattle.std.proofs.lemmas.Bool.{cases_eq, cases_lt, eq-eqb, ne_eqb, lt-ltb, le-ltb}
 use Rattle.std.specs.List.{list_any}
+use Rattle.std.specs.Option.{option_map_or}
 use Rattle.std.proofs.lemmas.List.{get_or_past, get_or-set_same, get_or-set_other, get_or-map, get_or_append_left, get_or-append_right, length-map, length-append, length-replicate}
 use Rattle.std.proofs.lemmas.List.FromFn.{get_or-map-range_with_len, fill_by_all}
 use Rattle.std.proofs.lemmas.Nat.Bits.{bit_at_and, bit_at_above, bit_at-lt, bit_at-zero}
@@ -163,3 +164,26 @@ homes-on nodes slots bits alike mask n few found is f =
       inner false there is = refl
       inner true true is = rw is (swap (nat_eq (get_or nodes f 0) n.value) ∙ eq-sym (get_or nodes f 0) n.value)
       inner true false is = rw is (bare (nat_eq (get_or nodes f 0) n.value))
+
+-- the fragments that have a home among those whose numbers have a flag that is set are those with a home on such a node
+pub homes-flagged : (nodes slots : List ℕ) (flags : List Bool) (bits flagged mask : ℕ) → bits < 65536 → ((f : ℕ) → bits_set flagged f ≡ (nat_lt f 16 && get_or flags (get_or nodes f 0) false))
+    → mask ≡ bit_and flagged bits → (f : ℕ)
+    → bits_set mask f ≡ (nat_lt f 16 && option_map_or (λ seat. get_or flags seat.node.value false) (get_or (homes_of nodes slots bits) f None) false)
+homes-flagged nodes slots flags bits flagged mask few found is f =
+    both-bits flagged bits mask f is
+    ∙ (ap (λ b. b && bits_set bits f) (found f)
+    ∙ (inner (nat_lt f 16) (bits_set bits f) refl
+    ∙ sym (ap (λ (o : Option Seat). nat_lt f 16 && option_map_or (λ seat. get_or flags seat.node.value false) o false) (home-of nodes slots bits f few)))) where
+      right-true : (b : Bool) → (b && true) ≡ b
+      right-true true = refl
+      right-true false = refl
+
+      right-false : (b : Bool) → (b && false) ≡ false
+      right-false true = refl
+      right-false false = refl
+
+      inner : (low there : Bool) → bits_set bits f ≡ there
+          → (low && get_or flags (get_or nodes f 0) false && bits_set bits f) ≡ (low && option_map_or (λ seat. get_or flags seat.node.value false) (home_at nodes slots bits f) false)
+      inner false there is = refl
+      inner true true is = rw is (right-true (get_or flags (get_or nodes f 0) false))
+      inner true false is = rw is (right-false (get_or flags (get_or nodes f 0) false))

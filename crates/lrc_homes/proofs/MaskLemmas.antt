@@ -45,6 +45,17 @@ module _ (m : ℕ → Bool) (i : ℕ) where
   pub mask-next_false : (bits : ℕ) → m i ≡ false → ((f : ℕ) → bits_set bits f ≡ (ltb f i && m f)) → (f : ℕ) → bits_set bits f ≡ (ltb f (i + 1) && m f)
   mask-next_false bits miss before f = before f ∙ below-next_false f miss
 
+  -- the mask with the next fragment, if it is in the set
+  pub mask-next : (bits next k : ℕ) (b : Bool) → k ≡ i → b ≡ m i → ((f : ℕ) → bits_set bits f ≡ (ltb f i && m f)) → ((f : ℕ) → bits_set next f ≡ ((eqb f k && b) || bits_set bits f)) → (f : ℕ) → bits_set next f ≡ (ltb f (i + 1) && m f)
+  mask-next bits next k true same hit before after = mask-next_true bits next k same (sym hit) before (λ f. after f ∙ ap (λ (x : Bool). x || bits_set bits f) (and-true (eqb f k))) where
+    and-true : (x : Bool) → (x && true) ≡ x
+    and-true true = refl
+    and-true false = refl
+  mask-next bits next k false same miss before after = (λ f. after f ∙ (ap (λ (x : Bool). x || bits_set bits f) (and-false (eqb f k)) ∙ mask-next_false bits (sym miss) before f)) where
+    and-false : (x : Bool) → (x && false) ≡ false
+    and-false true = refl
+    and-false false = refl
+
 -- the cases of `is_none`
 pub is_none-answer : {X : Type 0} (o : Option X) (b : Bool) → is_some o ≡ not b → is_none o ≡ b
 is_none-answer None true e = refl

@@ -8,3 +8,4 @@ pub mod Domains
 pub mod HomeArrays
 pub mod Masks
 pub mod Homes
+pub mod Upgrading

@@ -19,15 +19,19 @@ pub struct HomeDomains {
 }
 
 impl HomeDomains {
+    /// The domains of a stripe without homes.
+    pub fn none() -> HomeDomains {
+        HomeDomains {
+            faults: [0; FRAGMENTS],
+            upgrades: [0; FRAGMENTS],
+        }
+    }
+
     /// The domains of `count` stripes without homes.
     pub fn of_none(alloc: Global, count: usize) -> Result<Vec<HomeDomains>, AllocError>
         ensures { IfOk result (λ v. length v.items ≡ count) }
     {
-        let none = HomeDomains {
-            faults: [0; FRAGMENTS],
-            upgrades: [0; FRAGMENTS],
-        };
-        vec![in alloc; none; count]
+        vec![in alloc; HomeDomains::none(); count]
     }
 
     /// Stores the domains of the node with a fragment's home.

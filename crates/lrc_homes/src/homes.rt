@@ -1,8 +1,10 @@
-ghost use Rattle.std.specs.Prelude.{◌≡◌, ℕ, ◌<◌, ◌&&◌, nat_lt, set, get_or, length, replicate, is_some, None};
+ghost use Rattle.std.specs.Prelude.{◌≡◌, ℕ, ◌<◌, ◌&&◌, nat_lt, set, get_or, length, replicate, is_some, false, None};
+ghost use Rattle.std.specs.Option.{option_map_or};
 ghost use Rattle.lrc_code.specs.Codes.{fragment_count};
 ghost use Rattle.lrc_code.specs.Losses.{bits_set};
 ghost use Rattle.lrc_homes.specs.Homes.{seated_homes, sits_on};
 
+use crate::masks;
 use lrc_code::{Code, FRAGMENTS, Fragment, LossMask, NodeNo};
 use lrc_topology::Seat;
 use std::marker::Model;
@@ -132,4 +134,26 @@ impl Homes {
         let alike = u16x16::from_array(self.nodes).simd_eq(u16x16::splat(node.value));
         LossMask::from_bits(alike.to_bitmask() as u16 & self.homed.bits)
     }
+    /// The fragments with a home on a node whose flag is set. There is a flag for each node number.
+    pub fn fragments_where(&self, flags: &[bool]) -> LossMask
+        requires { length flags.now ≡ 65536 }
+        ensures few { result.bits < 65536 }
+        ensures on { (f : ℕ) → bits_set result.bits f ≡ (nat_lt f 16 && option_map_or (λ seat. get_or flags.now seat.node.value false) (get_or self.now f None) false) }
+    {
+        let flagged = fragments_flagged(&self.nodes, flags);
+        LossMask::from_bits(flagged.bits & self.homed.bits)
+    }
+}
+
+/// The fragments for which a number is stored whose flag is set.
+fn fragments_flagged(numbers: &[u16; FRAGMENTS], flags: &[bool]) -> LossMask
+    requires { length flags.now ≡ 65536 }
+    ensures { (f : ℕ) → bits_set result.bits f ≡ (nat_lt f 16 && get_or flags.now (get_or numbers.now f 0) false) }
+{
+    let mut mask = LossMask::from_bits(0);
+    for fragment in Fragment::all() {
+        let number = numbers[fragment.value as usize];
+        mask = masks::with_where(mask, fragment, flags[usize::from(number)]);
+    }
+    mask
 }

@@ -1,5 +1,5 @@
 -- The chains of a table after a number is added or removed.
-use Rattle.std.proofs.Common.{◌≡◌, ◌≢◌, ◌⊎◌, ◌<◌, ◌≤◌, ℕ, zero, suc, inl, inr, not, if◌then◌else◌, nat_eq, List, [], ◌∷◌, length, arith, sym, ◌∙◌, subst}
+use Rattle.std.proofs.Common.{◌≡◌, ◌≢◌, ◌⊎◌, ◌<◌, ◌≤◌, ℕ, zero, suc, inl, inr, not, if◌then◌else◌, nat_eq, List, ◌∷◌, length, arith, sym, ◌∙◌, subst}
 use Rattle.std.specs.List.{Contains}
 use Rattle.std.proofs.lemmas.Bool.{cases_eq, eq-eqb, ne_eqb}
 use Rattle.slab.proofs.SlabLemmas.{Contains-cons_cases}
@@ -154,13 +154,6 @@ module _ (t next : ChainTable) (c m : ℕ) (kept : AreChained t) (there : Contai
 
   pub walked-less : (d : ℕ) → chain_in next d ≡ (if nat_eq d c then without m (chain_in t d) else chain_in t d)
   walked-less d = walked next less less-linked less-once less-low d
-
--- no numbers at all
-pub chained-none : (t : ChainTable) → ((i : ℕ) → at t.firsts i ≡ 0) → AreChained t × ((d : ℕ) → chain_in t d ≡ [])
-chained-none t none = (
-  chained t (λ d. []) none (λ d. tt) (λ d k there. absurd (omega (arith, there.1))) (λ c d k there. absurd (omega (arith, there.1))),
-  walked t (λ d. []) none (λ d. tt) (λ d k there. absurd (omega (arith, there.1))),
-)
 
 -- ---- each number has a link
 

@@ -79,9 +79,9 @@ passing-apart test slab (k ∷ ks) single once = apart-cons test slab k ks singl
 
 -- where all that pass are of one chain, the walk over it finds them
 pub are-those : (chain : Lease → ℕ) (test : Lease → Bool) (d : ℕ) → ((l : Lease) → test l ≡ true → chain l ≡ d)
-    → (slab : Slab Lease) (chains : ChainTable) (spare : ℕ) (ks : List ℕ) → AreSingle slab → AreListed chain slab chains → ks ≡ chain_in chains d → AreOnce ks
-    → AreThose test (leased_of (leases_of slab) spare) (filter_map (passing_at test slab) ks)
-are-those chain test d own_chain slab chains spare ks single are walked once = record {
+    → (slab : Slab Lease) (chains : ChainTable) (ks : List ℕ) → AreSingle slab → AreListed chain slab chains → ks ≡ chain_in chains d → AreOnce ks
+    → AreThose test (leased_of (leases_of slab) 0) (filter_map (passing_at test slab) ks)
+are-those chain test d own_chain slab chains ks single are walked once = record {
   once = passing-apart test slab ks single once;
   each = λ l. (
     λ among.

@@ -86,13 +86,13 @@ passing_at test slab (suc key) = if_passes test (get slab key)
 
 -- the invariant: each fragment has one lease at most, which is found by its fragment, by the node of its target and by its end, and is in the mask of its
 -- stripe; there is room for a lease of each fragment and for the number of each key
-pub record IsKept (slab : Slab Lease) (keys : List ℕ) (places : ℕ) (targets ends : ChainTable) (masks : List LossMask) (spare : ℕ) : Type 0 where
+pub record IsKept (slab : Slab Lease) (keys : List ℕ) (places : ℕ) (targets ends : ChainTable) (masks : List LossMask) : Type 0 where
   pub single : AreSingle slab
   pub at : AreAt slab keys
   pub long : 65536 ≤ places
   pub targets_are : AreListed target_chain slab targets
   pub ends_are : AreListed end_chain slab ends
-  pub marked : AreMasks masks (leased_of (leases_of slab) spare)
+  pub marked : AreMasks masks (leased_of (leases_of slab) 0)
   pub roomy : 65536 ≤ slab.capacity
   pub low : AreBelow slab.capacity slab
   pub targets_fit : slab.capacity < targets.room

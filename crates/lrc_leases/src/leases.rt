@@ -1,7 +1,7 @@
 ghost use Rattle.std.specs.Prelude.{◌≡◌, ◌≤◌, length, ℕ, IfOk, IfErr, IfSome, IfNone, OnErr, OnOk, IsOk, IsTrue, Some, None, option_map};
 ghost use Rattle.lrc_code.specs.declared.fault.Fault.TheVariants.{OutOfMemory};
 ghost use Rattle.lrc_code.specs.Losses.{bits_set};
-ghost use Rattle.lrc_terms.specs.Leased.{empty, with_lease, without_lease, with_spare, leased_at, ends_at, AreTargetsOn, AreThose};
+ghost use Rattle.lrc_terms.specs.Leased.{empty, with_lease, without_lease, leased_at, ends_at, AreTargetsOn, AreThose};
 ghost use Rattle.lrc_leases.specs.Tables.{leased_in};
 
 use crate::arrays::write;
@@ -30,24 +30,23 @@ pub struct Leases {
     ends: Chains,
     /// The fragments that have a lease. A small table, which is read first.
     masks: Masks,
-    spare: u32,
 }
 
 impl Model for Leases {
-    ghost use Rattle.lrc_leases.specs.Tables.{Table};
-    ghost use Rattle.std.specs.Prelude.{vec_capacity};
+    ghost use Rattle.lrc_terms.specs.declared.lease.Lease.{Lease};
+    ghost use Rattle.std.specs.Prelude.{List, vec_capacity};
     ghost use Rattle.lrc_leases.specs.Kept.{leases_of, IsKept};
 
-    ghost Value = { Table };
+    ghost Value = { List Lease };
 
-    ghost view = { λ t. record { leases = leases_of t.slab; spare = t.spare } };
+    ghost view = { λ t. leases_of t.slab };
 
-    ghost invariant = { λ t. IsKept t.slab t.keys.items (vec_capacity t.keys) t.targets t.ends t.masks t.spare };
+    ghost invariant = { λ t. IsKept t.slab t.keys.items (vec_capacity t.keys) t.targets t.ends t.masks };
 }
 
 #[tactic(auto, unfolding(crate::specs::Tables::leased_in))]
 impl Leases {
-    /// No leases and no room for any. Allocates for a lease of each fragment, so that no later call allocates.
+    /// No leases. Allocates for a lease of each fragment, so that no later call allocates.
     ///
     /// # Errors
     ///
@@ -65,32 +64,7 @@ impl Leases {
             targets: Chains::new(alloc, bound)?,
             ends: Chains::new(alloc, bound)?,
             masks: Masks::new(alloc)?,
-            spare: 0,
         })
-    }
-
-    /// Makes room for `count` more leases. Nothing else changes. Today this allocates nothing: `new` allocates for all leases.
-    ///
-    /// # Errors
-    ///
-    /// None today. A table that grows would return `Fault::OutOfMemory`.
-    pub fn reserve(&mut self, count: u32) -> Result<(), Fault>
-        ensures room { OnOk result (count ≤ (leased_in self.new).spare) }
-        ensures no_less { (leased_in self.old).spare ≤ (leased_in self.new).spare }
-        ensures rest { leased_in self.new ≡ with_spare (leased_in self.old) (leased_in self.new).spare }
-        ensures always { IsOk result }
-        ensures unchanged { OnErr result (leased_in self.new ≡ leased_in self.old) }
-        ensures err { IfErr result (λ e. e ≡ OutOfMemory) }
-    {
-        self.spare = self.spare.max(count);
-        Ok(())
-    }
-
-    /// The number of leases for which there is room.
-    pub fn spare(&self) -> u32
-        ensures { result ≡ (leased_in self.now).spare }
-    {
-        self.spare
     }
 
     /// The lease of a fragment of a stripe, if there is one.
@@ -121,11 +95,10 @@ impl Leases {
         self.masks.mask(stripe)
     }
 
-    /// Adds the lease of a fragment that has none. There must be room for it.
+    /// Adds the lease of a fragment that has none.
     #[inline(always)] // so that a grant makes no second call
     pub fn add(&mut self, lease: Lease)
         requires absent { (leased_in self.old).leases lease.stripe lease.fragment.value ≡ None }
-        requires room { 1 ≤ (leased_in self.old).spare }
         ensures { leased_in self.new ≡ with_lease (leased_in self.old) lease }
     {
         let spot = spot_of(lease.stripe, lease.fragment);
@@ -134,14 +107,12 @@ impl Leases {
         self.targets.add(node_chain(lease.target.node), key + 1);
         self.ends.add(clock_chain(lease.expiry), key + 1);
         self.masks.add(lease.stripe, lease.fragment);
-        self.spare -= 1;
     }
 
     /// Removes the lease of a fragment and returns it. Nothing changes if there is none.
     pub fn remove(&mut self, stripe: StripeNo, fragment: Fragment) -> Option<Lease>
         ensures value { result ≡ (leased_in self.old).leases stripe fragment.value }
-        ensures lease { leased_in self.new ≡ with_spare (without_lease (leased_in self.old) stripe fragment) (leased_in self.new).spare }
-        ensures spare { (leased_in self.old).spare ≤ (leased_in self.new).spare }
+        ensures lease { leased_in self.new ≡ without_lease (leased_in self.old) stripe fragment }
         ensures none { IfNone result (leased_in self.new ≡ leased_in self.old) }
     {
         if !self.masks.mask(stripe).contains(fragment) {
@@ -155,8 +126,7 @@ impl Leases {
     fn take(&mut self, stripe: StripeNo, fragment: Fragment) -> Lease
         requires { IsTrue (leased_at (leased_in self.old) stripe fragment.value) }
         ensures value { Some result ≡ (leased_in self.old).leases stripe fragment.value }
-        ensures lease { leased_in self.new ≡ with_spare (without_lease (leased_in self.old) stripe fragment) (leased_in self.new).spare }
-        ensures spare { (leased_in self.old).spare ≤ (leased_in self.new).spare }
+        ensures lease { leased_in self.new ≡ without_lease (leased_in self.old) stripe fragment }
     {
         let key = key_of(&self.slab, &self.keys, stripe, fragment);
         let lease = self.slab.remove(key);

@@ -1,11 +1,15 @@
 -- The nodes with their states as they are kept at first.
-use Rattle.std.proofs.Common.{◌≡◌, ℕ, zero, suc, ◌<◌, ◌+◌, inl, inr, Bool, true, false, ◌&&◌, nat_eq, nat_lt, List, [], ◌∷◌, length, map, get_or, set, replicate, arith, refl, sym, ap, ap₂, ◌∙◌}
+use Rattle.std.proofs.Common.{◌≡◌, ℕ, zero, suc, ◌<◌, ◌+◌, inl, inr, Bool, true, false, ◌&&◌, ◌||◌, nat_eq, nat_lt, List, [], ◌∷◌, length, map, get_or, set, take, replicate, arith, refl, sym, ap, ap₂, ◌∙◌}
 use Rattle.std.proofs.Math.ListN.{length-set}
-use Rattle.std.proofs.lemmas.Bool.{cases_eq, cases_lt, eq-eqb, ne_eqb, lt-ltb, le-ltb}
-use Rattle.std.proofs.lemmas.List.{get_or-set_same, get_or-set_other, length-replicate, get_or-replicate, get_or_default}
+use Rattle.std.specs.List.{list_any}
+use Rattle.std.proofs.lemmas.Bool.{cases_Bool, cases_eq, cases_lt, eq-eqb, ne_eqb, lt-ltb, le-ltb}
+use Rattle.std.proofs.lemmas.List.{get_or-set_same, get_or-set_other, length-replicate, get_or-replicate, get_or_default, take_more}
+use Rattle.std.proofs.lemmas.List.Folds.{list_any-append}
+use Rattle.lrc_code.specs.declared.numbers.NodeNo.{NodeNo}
+use Rattle.lrc_code.specs.Numbers.{same_node}
 use Rattle.lrc_topology.specs.declared.NodeInfo.{NodeInfo}
 use Rattle.lrc_nodes.specs.declared.node_state.NodeState.{NodeState}
-use Rattle.lrc_nodes.specs.States.{first_state}
+use Rattle.lrc_nodes.specs.States.{first_state, up_in}
 use Rattle.lrc_nodes.specs.Kept.{states_from, AreDomains, ArePositions}
 
 same_from : (n i : ℕ) → get_or (replicate n false) i false ≡ false
@@ -96,3 +100,39 @@ domains-more nodes place sets u old d are within small low is here =
                 ]
           ];
     }
+
+-- ---- the flags of the nodes
+
+-- the node with this number is among these
+abbrev is_among : NodeNo → List NodeInfo → Bool
+is_among n nodes = list_any (λ k. same_node n k.number) nodes
+
+pub flags-none : (count : ℕ) (flags : List Bool) → flags ≡ replicate count false → (k : ℕ) → get_or flags k false ≡ false
+flags-none count flags is k = ap (λ (bs : List Bool). get_or bs k false) is ∙ same_from count k
+
+-- the flag of one more node
+pub flags-more : (nodes : List NodeInfo) (i : ℕ) (d : NodeInfo) (flags : List Bool) → i < length nodes → (get_or nodes i d).number.value < length flags
+    → ((n : NodeNo) → get_or flags n.value false ≡ list_any (λ k. same_node n k.number) (take i nodes))
+    → (n : NodeNo) → get_or (set flags (get_or nodes i d).number.value true) n.value false ≡ list_any (λ k. same_node n k.number) (take (i + 1) nodes)
+flags-more nodes i d flags within low each n =
+    let m = (get_or nodes i d).number in
+    rw (take_more nodes i d within) (rw (list_any-append (λ (k : NodeInfo). same_node n k.number) (take i nodes) (get_or nodes i d ∷ [])) (elim (cases_eq n.value m.value) [
+      | inl same ↦
+          rw (eq-eqb _ _ same) (ap (λ (k : ℕ). get_or (set flags m.value true) k false) same ∙ (get_or-set_same flags m.value true false low ∙ sym (or-true (is_among n (take i nodes)))))
+      | inr other ↦ rw (ne_eqb _ _ other) (get_or-set_other flags m.value n.value true false other ∙ (each n ∙ sym (or-false (is_among n (take i nodes)))))
+    ])) where
+      or-true : (b : Bool) → (b || true) ≡ true
+      or-true true = refl
+      or-true false = refl
+
+      or-false : (b : Bool) → (b || false) ≡ b
+      or-false true = refl
+      or-false false = refl
+
+-- at first each node is up
+pub flags-all : (nodes : List NodeInfo) (n : NodeNo) → list_any (λ k. same_node n k.number) nodes ≡ up_in (map first_state nodes) n
+flags-all [] n = refl
+flags-all (m ∷ nodes) n = elim (cases_Bool (nat_eq n.value m.number.value)) [
+  | inl here ↦ rw here refl
+  | inr later ↦ rw later (flags-all nodes n)
+]

@@ -15,7 +15,7 @@ use Rattle.lrc_terms.specs.declared.mode.Mode.{Mode}
 use Rattle.lrc_terms.specs.declared.mode.Mode.TheVariants.{Active, Draining, Gone}
 use Rattle.lrc_terms.specs.Modes.{is_gone, is_draining}
 use Rattle.lrc_nodes.specs.States.{is_node_offline, is_node_draining, numbers_in, state_at, with_state, with_upgrading_in}
-use Rattle.lrc_nodes.specs.Kept.{StateBits, mode_by, state_by, state_of, states_from, AreDomains, ArePositions, AreStates, AreOffline, AreKept}
+use Rattle.lrc_nodes.specs.Kept.{StateBits, mode_by, state_by, state_of, states_from, AreDomains, ArePositions, AreStates, AreOffline, AreUp, AreKept}
 use Rattle.lrc_nodes.proofs.StateLemmas.{no_state, IsPlaceOf, place-found, state-found, state_at-past, state_at-number}
 
 -- ---- the nodes of the list
@@ -239,7 +239,7 @@ module _ (nodes : List NodeInfo) (bits : StateBits) (t : List NodeState) (view :
   pub place-low : (set : List Bool) → ArePositions nodes set → length nodes ≤ 512 → p < length set
   place-low set are few = let within = place-within nodes bits t view n p place in let long = are.long in omega (arith, within, long, few)
 
-  module _ (numbers : List NodeNo) (off : List Bool) (domains : List (List Bool)) (kept : AreKept nodes numbers bits off domains) where
+  module _ (numbers : List NodeNo) (off : List Bool) (domains : List (List Bool)) (up : List Bool) (kept : AreKept nodes numbers bits off domains up) where
     pub marked : (before after : List Bool) (b : Bool) → ArePositions nodes before → after ≡ set before p b → Turned nodes (λ k. same_node n k.number) b before after
     marked before after b are is =
         let within = place-within nodes bits t view n p place in
@@ -247,8 +247,9 @@ module _ (nodes : List NodeInfo) (bits : StateBits) (t : List NodeState) (view :
 
     -- the bits that follow a new state of the node
     pub kept-state : (mode : Mode) (b : Bool) (gone draining down off' : List Bool) → gone ≡ set bits.gone p (is_gone mode) → draining ≡ set bits.draining p (is_draining mode) → down ≡ set bits.down p b
-        → off' ≡ set off p (is_gone mode || (b || get_or bits.upgrading p false)) → AreKept nodes numbers (record bits { gone = gone; draining = draining; down = down }) off' domains
-    kept-state mode b gone draining down off' left drains falls leaves =
+        → off' ≡ set off p (is_gone mode || (b || get_or bits.upgrading p false)) → (up' : List Bool) → AreUp (states_from 0 nodes (record bits { gone = gone; draining = draining; down = down })) up'
+        → AreKept nodes numbers (record bits { gone = gone; draining = draining; down = down }) off' domains up'
+    kept-state mode b gone draining down off' left drains falls leaves up' flagged =
         let within = place-within nodes bits t view n p place in
         let low : (set : List Bool) → ArePositions nodes set → p < length set = λ set are. place-low set are kept.few in
         let old = kept.states in
@@ -277,6 +278,7 @@ module _ (nodes : List NodeInfo) (bits : StateBits) (t : List NodeState) (view :
                 (get_or-set_other off p q (is_gone mode || (b || get_or bits.upgrading p false)) false other ∙ kept.derived q)
           ]);
           grouped = kept.grouped;
+          flagged = flagged;
         } where
           one-mode : (mode : Mode) → (is_gone mode && is_draining mode) ≡ false
           one-mode Active = refl
@@ -302,13 +304,13 @@ module _ (nodes : List NodeInfo) (domains : List (List Bool)) (are : AreDomains 
     }
 
   -- the bits that follow a change of the upgrading domain; the gone and the down nodes are put back among the offline ones
-  pub kept-upgrading : (bits : StateBits) (off : List Bool) (numbers : List NodeNo) → AreKept nodes numbers bits off domains → (b : Bool) (upgrading marked_off with_gone with_down : List Bool)
+  pub kept-upgrading : (bits : StateBits) (off : List Bool) (numbers : List NodeNo) (up : List Bool) → AreKept nodes numbers bits off domains up → (b : Bool) (upgrading marked_off with_gone with_down : List Bool)
       → length upgrading ≡ length bits.upgrading → ((k : ℕ) → get_or upgrading k false ≡ cond (get_or places k false) b (get_or bits.upgrading k false))
       → length marked_off ≡ length off → ((k : ℕ) → get_or marked_off k false ≡ cond (get_or places k false) b (get_or off k false))
       → length with_gone ≡ length marked_off → ((k : ℕ) → get_or with_gone k false ≡ (get_or marked_off k false || get_or bits.gone k false))
       → length with_down ≡ length with_gone → ((k : ℕ) → get_or with_down k false ≡ (get_or with_gone k false || get_or bits.down k false))
-      → AreKept nodes numbers (record bits { upgrading = upgrading }) with_down domains
-  kept-upgrading bits off numbers kept b upgrading marked_off with_gone with_down long turned long_off turned_off long_gone more_gone long_down more_down =
+      → AreUp (states_from 0 nodes (record bits { upgrading = upgrading })) up → AreKept nodes numbers (record bits { upgrading = upgrading }) with_down domains up
+  kept-upgrading bits off numbers up kept b upgrading marked_off with_gone with_down long turned long_off turned_off long_gone more_gone long_down more_down flagged =
       let new = turned-positions bits.upgrading upgrading b turned long kept.states.upgrading in
       let derived : AreOffline (record bits { upgrading = upgrading }) with_down = λ k.
       more_down k ∙ (ap (λ x. x || get_or bits.down k false) (more_gone k ∙ ap (λ x. x || get_or bits.gone k false) (turned_off k ∙ ap (cond (get_or places k false) b) (kept.derived k)))
@@ -325,6 +327,7 @@ module _ (nodes : List NodeInfo) (domains : List (List Bool)) (are : AreDomains 
         };
         derived = derived;
         grouped = kept.grouped;
+        flagged = flagged;
       } where
         put-back : (among b gone down upgrading : Bool) → ((cond among b (gone || (down || upgrading)) || gone) || down) ≡ (gone || (down || cond among b upgrading))
         put-back true true true down upgrading = refl

@@ -1,9 +1,11 @@
 -- States of nodes that are set: what changes, and that the nodes stay.
-use Rattle.std.proofs.Common.{◌≡◌, ℕ, suc, inl, inr, Bool, true, false, not, ◌&&◌, nat_eq, if◌then◌else◌, List, [], ◌∷◌, map, Option, Some, None, IsSome, is_some, option_map, refl, sym, ap, ◌∙◌}
+use Rattle.std.proofs.Common.{◌≡◌, ℕ, suc, ◌<◌, inl, inr, Bool, true, false, not, ◌&&◌, nat_eq, if◌then◌else◌, List, [], ◌∷◌, map, length, get_or, set, Option, Some, None, IsSome, is_some, option_map, arith, refl, sym, ap, ◌∙◌}
 use Rattle.std.proofs.Math.Path.{fun_ext}
+use Rattle.std.proofs.Math.ListN.{length-set}
 use Rattle.std.specs.List.{list_any}
 use Rattle.std.specs.Option.{option_map_or}
 use Rattle.std.proofs.lemmas.Bool.{cases_Bool, cases_eq, eq-eqb, ne_eqb}
+use Rattle.std.proofs.lemmas.List.{get_or-set_same, get_or-set_other}
 use Rattle.lrc_code.specs.declared.numbers.NodeNo.{NodeNo}
 use Rattle.lrc_code.specs.declared.numbers.UpgradeNo.{UpgradeNo}
 use Rattle.lrc_code.specs.Numbers.{same_node, same_upgrade}
@@ -13,7 +15,8 @@ use Rattle.lrc_topology.specs.Nodes.{node_at}
 use Rattle.lrc_nodes.specs.declared.node_state.NodeState.{NodeState}
 use Rattle.lrc_terms.specs.declared.mode.Mode.{Mode}
 use Rattle.lrc_terms.specs.Modes.{is_gone, is_draining}
-use Rattle.lrc_nodes.specs.States.{is_node_online, is_node_draining, infos_in, state_at, node_position, online_in, draining_in, with_state, with_upgrading_in}
+use Rattle.lrc_nodes.specs.States.{is_node_up, is_node_online, is_node_draining, infos_in, state_at, node_position, up_in, online_in, draining_in, with_state, with_upgrading_in}
+use Rattle.lrc_nodes.specs.Kept.{AreUp}
 use Rattle.lrc_nodes.proofs.StateLemmas.{state_at-number}
 
 -- ---- the nodes stay
@@ -106,6 +109,9 @@ module _ (states : List NodeState) (n : NodeNo) (mode : Mode) (b : Bool) where
   pub online-state : (m : NodeNo) → same_node n m ≡ false → online_in (with_state states n mode b) m ≡ online_in states m
   online-state m other = said-others n (λ x. record x { mode = mode; is_down = b }) (λ x. refl) is_node_online states m other
 
+  pub up-state : (m : NodeNo) → same_node n m ≡ false → up_in (with_state states n mode b) m ≡ up_in states m
+  up-state m other = said-others n (λ x. record x { mode = mode; is_down = b }) (λ x. refl) is_node_up states m other
+
   pub draining-state : IsSome (state_at states n) → draining_in (with_state states n mode b) ≡ λ m. if same_node n m then is_draining mode else draining_in states m
   draining-state there = fun_ext (λ m. elim (cases_eq n.value m.value) [
     | inl same ↦
@@ -116,14 +122,44 @@ module _ (states : List NodeState) (n : NodeNo) (mode : Mode) (b : Bool) where
         rw miss (said-others n (λ x. record x { mode = mode; is_down = b }) (λ x. refl) is_node_draining states m miss)
   ])
 
+  -- the flag of the node set
+  pub flag-state : (before after : List Bool) → AreUp states before → IsSome (state_at states n) → n.value < 65536 → after ≡ set before n.value (not (is_gone mode) && not b)
+      → AreUp (with_state states n mode b) after
+  flag-state before after are there small is =
+      let up = not (is_gone mode) && not b in
+      let long = are.long in
+      record {
+        long = ap length is ∙ (length-set before n.value up ∙ are.long);
+        each = λ m. rw is (elim (cases_eq n.value m.value) [
+          | inl same ↦
+              ap (λ (k : ℕ). get_or (set before n.value up) k false) (sym same)
+              ∙ (get_or-set_same before n.value up false (omega (arith, small, long))
+              ∙ (sym (said-there n (λ x. record x { mode = mode; is_down = b }) (λ x. refl) is_node_up up (λ x. refl) states there)
+              ∙ ap (up_in (with_state states n mode b)) (equal_nodes n m same)))
+          | inr other ↦
+              get_or-set_other before n.value m.value up false (λ e. other (sym e))
+              ∙ (are.each m ∙ sym (said-others n (λ x. record x { mode = mode; is_down = b }) (λ x. refl) is_node_up states m (ne_eqb _ _ other)))
+        ]);
+      }
+
 -- ---- the nodes of an upgrade domain set
 
 module _ (states : List NodeState) (u : UpgradeNo) (b : Bool) where
   pub same-upgrading : AreSameNodes states (with_upgrading_in states u b)
   same-upgrading = same-put (λ k. same_upgrade k.upgrade u) (λ x. record x { is_upgrading = b }) (λ x. refl) states
 
+  pub up-upgrading : up_in (with_upgrading_in states u b) ≡ up_in states
+  up-upgrading = fun_ext (λ m. said-kept (λ k. same_upgrade k.upgrade u) (λ x. record x { is_upgrading = b }) (λ x. refl) is_node_up (λ x. refl) states m)
+
   pub draining-upgrading : draining_in (with_upgrading_in states u b) ≡ draining_in states
   draining-upgrading = fun_ext (λ m. said-kept (λ k. same_upgrade k.upgrade u) (λ x. record x { is_upgrading = b }) (λ x. refl) is_node_draining (λ x. refl) states m)
+
+  -- the flags stay
+  pub flags-upgrading : (up : List Bool) → AreUp states up → AreUp (with_upgrading_in states u b) up
+  flags-upgrading up are = record {
+    long = are.long;
+    each = λ m. are.each m ∙ sym (said-kept (λ k. same_upgrade k.upgrade u) (λ x. record x { is_upgrading = b }) (λ x. refl) is_node_up (λ x. refl) states m);
+  }
 
 -- the node of this number is in the upgrade domain
 abbrev pub is_of_domain : UpgradeNo → NodeNo → NodeInfo → Bool

@@ -1,6 +1,6 @@
 -- Look-ups in a list of nodes with their states.
-use Rattle.std.proofs.Common.{◌≡◌, ◌≢◌, ℕ, zero, suc, ◌<◌, ◌≤◌, inl, inr, false, nat_eq, nat_lt, if◌then◌else◌, List, [], ◌∷◌, length, map, get_or, Option, Some, None, option_map, arith, refl, sym, ap, ◌∙◌, subst}
-use Rattle.std.specs.List.{position_or_len, AllPairs}
+use Rattle.std.proofs.Common.{◌≡◌, ◌≢◌, ℕ, zero, suc, ◌<◌, ◌≤◌, inl, inr, Bool, true, false, not, ◌&&◌, nat_eq, nat_lt, if◌then◌else◌, List, [], ◌∷◌, length, map, get_or, Option, Some, None, IsSome, option_map, arith, refl, sym, ap, ◌∙◌, subst}
+use Rattle.std.specs.List.{position_or_len, All, AllPairs}
 use Rattle.std.specs.Option.{option_map_or}
 use Rattle.std.proofs.lemmas.Bool.{cases_Bool, cases_lt, eq-eqb, ne_eqb, eqb-true, lt-ltb, le-ltb}
 use Rattle.std.proofs.lemmas.Option.{same_Some}
@@ -10,8 +10,9 @@ use Rattle.lrc_code.specs.Numbers.{same_node}
 use Rattle.lrc_topology.specs.declared.NodeInfo.{NodeInfo}
 use Rattle.lrc_topology.specs.Nodes.{node_at, place_in}
 use Rattle.lrc_terms.specs.declared.mode.Mode.TheVariants.{Active}
+use Rattle.lrc_terms.specs.Modes.{is_gone}
 use Rattle.lrc_nodes.specs.declared.node_state.NodeState.{NodeState}
-use Rattle.lrc_nodes.specs.States.{first_state, is_node_online, numbers_in, state_at, node_position, online_in}
+use Rattle.lrc_nodes.specs.States.{first_state, is_node_up, is_node_online, numbers_in, state_at, node_position, up_in, online_in}
 
 -- a filler for no node
 abbrev pub no_state : NodeState
@@ -133,3 +134,27 @@ state_at-own (x ∷ states) (suc i) d within apart =
 pub online-own : (states : List NodeState) (i : ℕ) (d : NodeState) → i < length states → AllPairs (λ (m n : NodeNo). m.value ≢ n.value) (numbers_in states)
     → online_in states (get_or states i d).node.number ≡ is_node_online (get_or states i d)
 online-own states i d within apart = ap (λ (o : Option NodeState). option_map_or is_node_online o false) (state_at-own states i d within apart)
+
+-- ---- what is online is up
+
+-- a node that is up is online, unless its domain is upgrading
+pub online-up : (x : NodeState) → is_node_up x ≡ true → not x.is_upgrading ≡ is_node_online x
+online-up x up = by (is_gone x.mode) x.is_down x.is_upgrading up where
+  by : (gone down upgrading : Bool) → (not gone && not down) ≡ true → not upgrading ≡ (not gone && (not down && not upgrading))
+  by true down upgrading up = absurd (cc)
+  by false true upgrading up = absurd (cc)
+  by false false upgrading up = refl
+
+-- what is not up is not online
+pub offline-down : (o : Option NodeState) → option_map_or is_node_up o false ≡ false → false ≡ option_map_or is_node_online o false
+offline-down None off = refl
+offline-down (Some x) off = by (is_gone x.mode) x.is_down (not x.is_upgrading) off where
+  by : (gone down rest : Bool) → (not gone && not down) ≡ false → false ≡ (not gone && (not down && rest))
+  by true down rest off = refl
+  by false true rest off = refl
+  by false false rest off = absurd (cc)
+
+-- what is up is there
+pub there-up : (o : Option NodeState) → option_map_or is_node_up o false ≡ true → IsSome o
+there-up None up = absurd (cc)
+there-up (Some x) up = refl

@@ -1,5 +1,5 @@
 -- Internal: no public clause reaches these definitions.
--- The stored form of the nodes: sets of positions, one for each thing that a state says, one of the offline nodes, and one of the nodes of each upgrade domain.
+-- The stored form of the nodes: sets of positions, one for each thing that a state says, one of the offline nodes, and one of the nodes of each upgrade domain; and a flag for each node number.
 use Rattle.std.specs.Prelude.{◌≡◌, ◌≢◌, ℕ, suc, ◌<◌, ◌≤◌, Bool, ◌&&◌, ◌||◌, if◌then◌else◌, false, nat_lt, nat_eq, List, [], ◌∷◌, map, get_or, length}
 use Rattle.std.specs.List.{AllPairs}
 use Rattle.lrc_code.specs.declared.numbers.NodeNo.{NodeNo}
@@ -7,6 +7,7 @@ use Rattle.lrc_topology.specs.declared.NodeInfo.{NodeInfo}
 use Rattle.lrc_terms.specs.declared.mode.Mode.{Mode}
 use Rattle.lrc_terms.specs.declared.mode.Mode.TheVariants.{Active, Draining, Gone}
 use Rattle.lrc_nodes.specs.declared.node_state.NodeState.{NodeState}
+use Rattle.lrc_nodes.specs.States.{up_in}
 
 -- the positions of the nodes that are gone, of those that are draining, of those that are down, and of those that are upgrading
 pub record StateBits : Type 0 where
@@ -55,8 +56,13 @@ pub record AreStates (nodes : List NodeInfo) (bits : StateBits) : Type 0 where
 abbrev pub AreOffline : StateBits → List Bool → Type 0
 AreOffline bits offline = (p : ℕ) → get_or offline p false ≡ (get_or bits.gone p false || (get_or bits.down p false || get_or bits.upgrading p false))
 
--- the numbers of the nodes differ, the sets are of positions of the nodes, and the offline nodes follow from the others
-pub record AreKept (nodes : List NodeInfo) (numbers : List NodeNo) (bits : StateBits) (offline : List Bool) (domains : List (List Bool)) : Type 0 where
+-- there is a flag for each node number: whether the store has the node and it is up
+pub record AreUp (states : List NodeState) (up : List Bool) : Type 0 where
+  pub long : length up ≡ 65536
+  pub each : (n : NodeNo) → get_or up n.value false ≡ up_in states n
+
+-- the numbers of the nodes differ, the sets are of positions of the nodes, and the offline nodes and the flags follow from the others
+pub record AreKept (nodes : List NodeInfo) (numbers : List NodeNo) (bits : StateBits) (offline : List Bool) (domains : List (List Bool)) (up : List Bool) : Type 0 where
   pub found : numbers ≡ map (λ n. n.number) nodes
   pub apart : AllPairs (λ m n. m.value ≢ n.value) numbers
   pub few : length nodes ≤ 512
@@ -64,3 +70,4 @@ pub record AreKept (nodes : List NodeInfo) (numbers : List NodeNo) (bits : State
   pub off : ArePositions nodes offline
   pub derived : AreOffline bits offline
   pub grouped : AreDomains nodes (length nodes) domains
+  pub flagged : AreUp (states_from 0 nodes bits) up

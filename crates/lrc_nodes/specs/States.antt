@@ -14,6 +14,10 @@ use Rattle.lrc_nodes.specs.declared.node_state.NodeState.{NodeState}
 abbrev pub first_state : NodeInfo → NodeState
 first_state n = record { node = n; mode = Active; is_down = false; is_upgrading = false }
 
+-- the node is up: neither gone nor down
+abbrev pub is_node_up : NodeState → Bool
+is_node_up x = not (is_gone x.mode) && not x.is_down
+
 -- the node is online: not gone, not down, and its upgrade domain is not upgrading
 abbrev pub is_node_online : NodeState → Bool
 is_node_online x = not (is_gone x.mode) && (not x.is_down && not x.is_upgrading)
@@ -41,6 +45,10 @@ state_at states n = find (λ x. same_node n x.node.number) states
 -- the node with a number is down; false if there is none
 abbrev pub down_in : List NodeState → NodeNo → Bool
 down_in states n = option_map_or (λ x. x.is_down) (state_at states n) false
+
+-- the node with a number is up; false if there is none
+abbrev pub up_in : List NodeState → NodeNo → Bool
+up_in states n = option_map_or is_node_up (state_at states n) false
 
 -- the node with a number is online; false if there is none
 abbrev pub online_in : List NodeState → NodeNo → Bool

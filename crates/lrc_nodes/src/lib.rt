@@ -3,6 +3,7 @@
 #![tactic(auto)]
 
 mod domains;
+mod flags;
 mod node_state;
 mod nodes;
 

@@ -1,14 +1,15 @@
-ghost use Rattle.std.specs.Prelude.{◌≡◌, ℕ, ◌<◌, ◌↔◌, ◌||◌, if◌then◌else◌, false, map, length, get_or, slice_set, option_map, IfOk, IfErr, IsSome, IsTrue, Some};
+ghost use Rattle.std.specs.Prelude.{◌≡◌, ℕ, ◌<◌, ◌↔◌, ◌&&◌, ◌||◌, not, if◌then◌else◌, false, map, length, get_or, slice_set, option_map, IfOk, IfErr, IsSome, IsTrue, Some};
 ghost use Rattle.std.specs.List.{All};
 ghost use Rattle.lrc_bits.specs.Flags.{FindsFrom};
+ghost use Rattle.lrc_code.specs.declared.numbers.NodeNo.{NodeNo as AnyNode};
 ghost use Rattle.lrc_code.specs.declared.fault.Fault.TheVariants.{OutOfMemory};
 ghost use Rattle.lrc_topology.specs.Nodes.{AreNodes, place_in};
 ghost use Rattle.lrc_terms.specs.Modes.{is_gone};
 ghost use Rattle.lrc_nodes.specs.Kept.{mode_by};
 ghost use Rattle.lrc_nodes.specs.declared.node_state.NodeState.{NodeState as AnyState};
-ghost use Rattle.lrc_nodes.specs.States.{first_state, is_node_offline, is_node_draining, numbers_in, state_at, down_in, online_in, draining_in, with_state, with_upgrading_in};
+ghost use Rattle.lrc_nodes.specs.States.{first_state, is_node_offline, is_node_up, is_node_draining, numbers_in, state_at, down_in, up_in, online_in, draining_in, with_state, with_upgrading_in};
 
-use crate::{NodeState, domains};
+use crate::{NodeState, domains, flags};
 use lrc_bits::BitSet;
 use lrc_code::{Fault, NodeNo, UpgradeNo};
 use lrc_terms::Mode;
@@ -33,6 +34,8 @@ pub struct Nodes {
     offline: BitSet<8>,
     /// For each upgrade domain, the positions of its nodes.
     domains: Vec<BitSet<8>>,
+    /// By node number, whether the store has the node and it is up. It follows from the sets of the gone and the down nodes.
+    up: Vec<bool>,
 }
 
 impl Model for Nodes {
@@ -44,7 +47,7 @@ impl Model for Nodes {
 
     ghost view = { λ t. states_from 0 t.list.items (record { gone = t.gone; draining = t.draining; down = t.down; upgrading = t.upgrading }) };
 
-    ghost invariant = { λ t. AreKept t.list.items t.index (record { gone = t.gone; draining = t.draining; down = t.down; upgrading = t.upgrading }) t.offline t.domains.items };
+    ghost invariant = { λ t. AreKept t.list.items t.index (record { gone = t.gone; draining = t.draining; down = t.down; upgrading = t.upgrading }) t.offline t.domains.items t.up.items };
 }
 
 impl Nodes {
@@ -59,6 +62,7 @@ impl Nodes {
     {
         let list = nodes_of(alloc, topology)?;
         let domains = domains::positions_by_upgrade(alloc, &list)?;
+        let up = flags::by_number(alloc, &list)?;
         Ok(Nodes {
             list,
             index: NodeIndex::new(alloc, topology)?,
@@ -68,6 +72,7 @@ impl Nodes {
             upgrading: BitSet::new(),
             offline: BitSet::new(),
             domains,
+            up,
         })
     }
 
@@ -110,6 +115,15 @@ impl Nodes {
         ensures { (d : AnyState) → result ≡ is_node_offline (get_or self.now position d) }
     {
         self.offline.contains(position)
+    }
+
+    /// Reports whether the node at a position in the list is up: not gone and not down.
+    pub fn is_up_at(&self, position: usize) -> bool
+        requires { position < length self.now }
+        ensures { (d : AnyState) → result ≡ is_node_up (get_or self.now position d) }
+    {
+        let state = self.at(position);
+        !state.mode.is_gone() && !state.is_down
     }
 
     /// Reports whether the node at a position in the list is draining.
@@ -164,14 +178,26 @@ impl Nodes {
         Some(self.list[position])
     }
 
+    /// Returns a flag for each node number, 65,536 in all: whether there is a node with the number and it is up.
+    pub fn up(&self) -> &[bool]
+        ensures long { length result.now ≡ 65536 }
+        ensures each { (n : AnyNode) → get_or result.now n.value false ≡ up_in self.now n }
+    {
+        &self.up
+    }
+
+    /// Reports whether the node with a number is up: neither gone nor down; `false` if there is none.
+    pub fn is_up(&self, number: NodeNo) -> bool
+        ensures { result ≡ up_in self.now number }
+    {
+        self.up[usize::from(number.value)]
+    }
+
     /// Reports whether the node with a number is online; `false` if there is none.
     pub fn is_online(&self, number: NodeNo) -> bool
         ensures { result ≡ online_in self.now number }
     {
-        match self.position(number) {
-            Some(position) => !self.offline.contains(position),
-            None => false,
-        }
+        self.is_up(number) && !self.upgrading.contains(self.position_of(number))
     }
 
     /// Reports whether the node with a number is draining; `false` if there is none.
@@ -214,6 +240,7 @@ impl Nodes {
         mark(&mut self.down, position, is_down);
         let is_offline = is_offline(mode, is_down, is_upgrading);
         mark(&mut self.offline, position, is_offline);
+        self.up[usize::from(number.value)] = is_up(mode, is_down);
     }
 
     /// Sets whether the nodes of an upgrade domain are upgrading.
@@ -247,6 +274,13 @@ fn mode_by(is_gone: bool, is_draining: bool) -> Mode
     } else {
         Mode::Active
     }
+}
+
+/// Reports whether a node with this state is up.
+fn is_up(mode: Mode, is_down: bool) -> bool
+    ensures { result ≡ (not (is_gone mode) && not is_down) }
+{
+    !mode.is_gone() && !is_down
 }
 
 /// Reports whether a node with this state is offline.

@@ -12,6 +12,10 @@ has bits s = get_or bits s.value false
 abbrev pub at_rank : List (List Bool) → ℕ → StripeNo → Bool
 at_rank sets k = has (get_or sets k [])
 
+-- the stripes of each fragment number, by a set for each
+abbrev pub at_fragment : List (List Bool) → ℕ → StripeNo → Bool
+at_fragment sets f = has (get_or sets f [])
+
 -- the stripe is the first of the set from this number on
 pub record IsNext (set : StripeNo → Bool) (from : ℕ) (s : StripeNo) : Type 0 where
   pub has : set s ≡ true

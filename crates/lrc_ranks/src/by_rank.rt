@@ -1,13 +1,18 @@
-ghost use Rattle.std.specs.Prelude.{◌≡◌, ◌||◌, ℕ, ◌≤◌, false, if◌then◌else◌, List, IfSome};
+ghost use Rattle.std.specs.Prelude.{◌≡◌, ◌||◌, ◌&&◌, ℕ, ◌≤◌, true, false, if◌then◌else◌, List, nat_eq, IfSome, IfNone};
 ghost use Rattle.std.specs.Iterator.{YieldsFirst};
 ghost use Rattle.std.specs.List.{list_any};
+ghost use Rattle.std.specs.Option.{option_map_or};
 ghost use Rattle.lrc_code.specs.Numbers.{same_stripe};
 ghost use Rattle.lrc_code.specs.declared.numbers.StripeNo.{StripeNo as AnyStripe};
+ghost use Rattle.lrc_ranks.specs.Missing.{rank_with};
 ghost use Rattle.lrc_ranks.specs.Ranks.{is_at, queue_from};
 ghost use Rattle.lrc_ranks.specs.Sets.{FindsNext, at_rank, has};
 
+use crate::block::Block;
+use crate::fragment_sets::FragmentSets;
 use crate::marked_set::MarkedSet;
-use crate::stripe_set::StripeSet;
+use crate::planes::Planes;
+use crate::stripe_set::{BLOCKS, StripeSet};
 use lrc_code::StripeNo;
 use std::marker::Model;
 
@@ -54,6 +59,40 @@ impl ByRank {
         }
     }
 
+    /// Returns the stripes that have work, at their ranks.
+    pub(crate) fn ranked(planes: &Planes, more: &FragmentSets) -> ByRank
+        ensures { at_rank result ≡ λ k s. has planes.now.work s && nat_eq (rank_with planes.now.narrow planes.now.missing more.now s) k }
+    {
+        // Five sets and no array, and no test in the loop, so that the compiler takes several blocks at once.
+        let mut zero = StripeSet::new();
+        let mut one = StripeSet::new();
+        let mut two = StripeSet::new();
+        let mut three = StripeSet::new();
+        let mut four = StripeSet::new();
+        for index in 0..BLOCKS {
+            let block = Block {
+                planes,
+                more,
+                index,
+            };
+            let words = block.ranks();
+            zero.put_word(index, words[0]);
+            one.put_word(index, words[1]);
+            two.put_word(index, words[2]);
+            three.put_word(index, words[3]);
+            four.put_word(index, words[4]);
+        }
+        ByRank {
+            sets: [
+                MarkedSet::of(zero),
+                MarkedSet::of(one),
+                MarkedSet::of(two),
+                MarkedSet::of(three),
+                MarkedSet::of(four),
+            ],
+        }
+    }
+
     /// Adds a stripe that is at no rank to this rank, if there is one.
     pub fn add(&mut self, stripe: StripeNo, rank: Option<u8>)
         requires none { (k : ℕ) → at_rank self.old k stripe ≡ false }
@@ -64,6 +103,45 @@ impl ByRank {
             let set = &mut self.sets[rank as usize];
             set.insert(stripe);
         }
+    }
+
+    /// Reports whether there is a rank and the stripe is at it.
+    #[inline(always)]
+    pub(crate) fn is_at(&self, stripe: StripeNo, rank: Option<u8>) -> bool
+        requires { IfSome rank (λ k. k ≤ 4) }
+        ensures { result ≡ option_map_or (λ k. at_rank self.now k stripe) rank false }
+    {
+        match rank {
+            Some(rank) => self.sets[rank as usize].contains(stripe),
+            None => false,
+        }
+    }
+
+    /// Returns the lowest rank of a stripe, if it has one.
+    #[inline(always)]
+    pub(crate) fn rank(&self, stripe: StripeNo) -> Option<u8>
+        ensures some { IfSome result (λ k. (k ≤ 4) × (at_rank self.now k stripe ≡ true)) }
+        ensures none { IfNone result ((k : ℕ) → at_rank self.now k stripe ≡ false) }
+    {
+        for rank in 0..RANKS {
+            if self.sets[rank].contains(stripe) {
+                return Some(rank as u8);
+            }
+        }
+        None
+    }
+
+    /// Reports whether no stripe has a rank.
+    pub(crate) fn is_empty(&self) -> bool
+        ensures none { result ≡ true → (k : ℕ) (s : AnyStripe) → at_rank self.now k s ≡ false }
+        ensures some { result ≡ false → (k : ℕ) × (s : AnyStripe) × (at_rank self.now k s ≡ true) }
+    {
+        for rank in 0..RANKS {
+            if !self.sets[rank].is_empty() {
+                return false;
+            }
+        }
+        true
     }
 
     /// Removes a stripe from its rank, if it has one.

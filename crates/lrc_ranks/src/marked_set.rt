@@ -1,8 +1,9 @@
-ghost use Rattle.std.specs.Prelude.{◌≡◌, ◌&&◌, ◌||◌, not, false};
+ghost use Rattle.std.specs.Prelude.{◌≡◌, ◌&&◌, ◌||◌, not, true, false};
 ghost use Rattle.lrc_code.specs.Numbers.{same_stripe};
+ghost use Rattle.lrc_code.specs.declared.numbers.StripeNo.{StripeNo as AnyStripe};
 ghost use Rattle.lrc_ranks.specs.Sets.{FindsNext, has};
 
-use crate::stripe_set::StripeSet;
+use crate::stripe_set::{BLOCKS, StripeSet};
 use lrc_bits::BitSet;
 use lrc_code::StripeNo;
 use std::marker::Model;
@@ -35,6 +36,34 @@ impl MarkedSet {
             set: StripeSet::new(),
             marks: BitSet::new(),
         }
+    }
+
+    /// Returns the set with these stripes.
+    pub(crate) fn of(set: StripeSet) -> MarkedSet
+        ensures { has result ≡ has set }
+    {
+        let mut marks = BitSet::new();
+        for index in 0..BLOCKS {
+            if set.word(index) != 0 {
+                marks.insert(index);
+            }
+        }
+        MarkedSet { set, marks }
+    }
+
+    /// Reports whether a stripe is in the set.
+    pub(crate) fn contains(&self, stripe: StripeNo) -> bool
+        ensures { result ≡ has self.now stripe }
+    {
+        self.set.contains(stripe)
+    }
+
+    /// Reports whether the set is empty.
+    pub(crate) fn is_empty(&self) -> bool
+        ensures none { result ≡ true → (s : AnyStripe) → has self.now s ≡ false }
+        ensures some { result ≡ false → (s : AnyStripe) × (has self.now s ≡ true) }
+    {
+        self.marks.is_empty()
     }
 
     /// Adds a stripe.

@@ -1,12 +1,16 @@
-ghost use Rattle.std.specs.Prelude.{◌≡◌, ◌≤◌, ◌/◌, ◌&&◌, ◌||◌, not, false, if◌then◌else◌};
+ghost use Rattle.std.specs.Prelude.{◌≡◌, ◌<◌, ◌≤◌, ◌/◌, ◌%◌, ◌&&◌, ◌||◌, not, nat_eq, true, false, if◌then◌else◌};
 ghost use Rattle.lrc_code.specs.Numbers.{same_stripe};
 ghost use Rattle.lrc_code.specs.declared.numbers.StripeNo.{StripeNo as AnyStripe};
+ghost use Rattle.lrc_code.specs.Losses.{bits_set};
 ghost use Rattle.lrc_ranks.specs.Sets.{FindsNext, has};
 
 use crate::stripe_members::StripeMembers;
 use lrc_bits::BitSet;
-use lrc_code::StripeNo;
+use lrc_code::{STRIPES, StripeNo};
 use std::marker::Model;
+
+/// The number of blocks of 64 stripes.
+pub(crate) const BLOCKS: usize = STRIPES / 64;
 
 /// A set of stripes.
 #[derive(Drop)]
@@ -80,6 +84,24 @@ impl StripeSet {
         self.bits.insert_common(&one.bits, &other.bits);
     }
 
+    /// Returns the stripes of a block of 64 numbers, as bits.
+    #[inline(always)]
+    pub(crate) fn word(&self, index: usize) -> u64
+        requires { index < 64 }
+        ensures { (s : AnyStripe) → s.value / 64 ≡ index → bits_set result (s.value % 64) ≡ has self.now s }
+    {
+        self.bits.word(index)
+    }
+
+    /// Sets which stripes of a block of 64 numbers are in the set, given as bits.
+    #[inline(always)]
+    pub(crate) fn put_word(&mut self, index: usize, word: u64)
+        requires { index < 64 }
+        ensures { has self.new ≡ λ s. if nat_eq (s.value / 64) index then bits_set word (s.value % 64) else has self.old s }
+    {
+        self.bits.put_word(index, word);
+    }
+
     /// Returns an iterator over the stripes of the set, in rising order.
     pub fn members(&self) -> StripeMembers<'_>
         ensures { result ≡ self.now }
@@ -89,7 +111,8 @@ impl StripeSet {
 
     /// Reports whether the set has a stripe in the block of 64 numbers of this one.
     pub(crate) fn has_near(&self, stripe: StripeNo) -> bool
-        ensures { result ≡ false → (s : AnyStripe) → s.value / 64 ≡ stripe.value / 64 → has self.now s ≡ false }
+        ensures some { result ≡ true → (s : AnyStripe) × (s.value / 64 ≡ stripe.value / 64) × (has self.now s ≡ true) }
+        ensures none { result ≡ false → (s : AnyStripe) → s.value / 64 ≡ stripe.value / 64 → has self.now s ≡ false }
     {
         self.bits.has_near(stripe.value as usize)
     }

@@ -35,7 +35,7 @@ use Rattle.lrc_store.specs.declared.store.Store.{Store}
 use Rattle.lrc_store.specs.Stores.{IsOf}
 use Rattle.lrc_store.proofs.NodeStateLemmas.{infos-kept}
 use Rattle.lrc_store.proofs.PlacingLemmas.{home-taken}
-use Rattle.lrc_store.proofs.StoredLemmas.{own-spare, stored-home, stored-free}
+use Rattle.lrc_store.proofs.StoredLemmas.{stored-home, stored-free}
 
 -- ---- the cause of a slot
 
@@ -93,7 +93,7 @@ module _ (st : State) (k : Store) (kept : IsOf st k) (s : StripeNo) (f : Fragmen
   -- and no other fragment's home
   pub home-unused : HasNoHome (stored_in k.stripes) seat
   home-unused = subst (λ (t : Stored). HasNoHome t seat) (sym kept.stripes_is)
-      (stored-free k.topology st (stored_in k.stripes).spare seat
+      (stored-free k.topology st seat
       (λ h here. All-contains (λ (h : Held). h.seat ≢ seat) (seats_of st) h may.others (Contains-append_left st.homes (map held_by st.leases) h here)))
 
   -- with the slot taken and the home set, what is kept is that of the state with the home
@@ -104,9 +104,8 @@ module _ (st : State) (k : Store) (kept : IsOf st k) (s : StripeNo) (f : Fragmen
     seated = inserted-seated k.topology st kept.seated (held_on s f seat) may bare-list;
     apart = kept.apart;
     table_is = taken ∙ ap (λ (t : Slots). with_taken t seat.node (Some seat.slot)) kept.table_is ∙ home-taken k.topology st s f seat;
-    stripes_is = own-spare k.topology (with_home st s f seat) (stored_in stripes) (stored_in k.stripes).spare
-        (set ∙ ap (λ (t : Stored). stored.with_home t s f (Some seat)) kept.stripes_is
-        ∙ stored-home k.topology st (stored_in k.stripes).spare s f seat (none-of (home_of st.homes s f.value) bare));
+    stripes_is = set ∙ ap (λ (t : Stored). stored.with_home t s f (Some seat)) kept.stripes_is
+        ∙ stored-home k.topology st s f seat (none-of (home_of st.homes s f.value) bare);
     leases_is = kept.leases_is;
     upgrading_is = kept.upgrading_is;
     domains_are = kept.domains_are;

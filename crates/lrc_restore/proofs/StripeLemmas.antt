@@ -1,5 +1,5 @@
 -- The stripes of an image, added one after the other, and the homes of one of them.
-use Rattle.std.proofs.Common.{[], ◌≡◌, ◌≢◌, ℕ, ◌+◌, ◌-◌, ◌<◌, ◌≤◌, inl, inr, true, false, List, ◌∷◌, ◌++◌, flat_map, length, take, drop, get_or, Option, Some, None, IsFalse, sym, ap, ◌∙◌, subst, append_assoc, append-nil}
+use Rattle.std.proofs.Common.{[], ◌≡◌, ◌≢◌, ℕ, ◌+◌, ◌<◌, ◌≤◌, inl, inr, true, false, List, ◌∷◌, ◌++◌, flat_map, length, take, drop, get_or, Option, Some, None, IsFalse, sym, ap, ◌∙◌, subst, append_assoc, append-nil}
 use Rattle.std.specs.Option.{option_or}
 use Rattle.std.specs.List.{All, AllPairs, Contains}
 use Rattle.std.proofs.lemmas.List.{take_more, drop_more, take_all, drop_all, take-append-drop}
@@ -37,7 +37,7 @@ use Rattle.lrc_images.proofs.RisingLemmas.{other-stripe, homes_at, home-own}
 use Rattle.lrc_images.proofs.SeatedRowsLemmas.{homes_in, row-absent, row-is}
 use Rattle.lrc_store.specs.declared.store.Store.{Store}
 use Rattle.lrc_store.specs.Stores.{IsOf}
-use Rattle.lrc_store.proofs.StoredLemmas.{own-spare, stored-stripe}
+use Rattle.lrc_store.proofs.StoredLemmas.{stored-stripe}
 
 -- ---- a new stripe
 
@@ -56,16 +56,15 @@ module _ (before : List StripeRow) (r : StripeRow) (order : is_out_of_order stri
   rows-more = row-is before r apart i (homes_in before)
 
 -- with the stripe added, what is kept is that of the state with it
-pub stripe-kept : (st : State) (k : Store) → IsOf st k → (code : Code) (s : StripeNo) → IsFalse ((stored_in k.stripes).stripes s) → (stripes : tables.Table) (spare : ℕ)
-    → stored_in stripes ≡ stored.with_stripe (stored.with_spare (stored_in k.stripes) spare) code s → IsOf (with_stripe st code s) (record k { stripes = stripes })
-stripe-kept st k kept code s absent stripes spare added =
+pub stripe-kept : (st : State) (k : Store) → IsOf st k → (code : Code) (s : StripeNo) → IsFalse ((stored_in k.stripes).stripes s) → (stripes : tables.Table)
+    → stored_in stripes ≡ stored.with_stripe (stored_in k.stripes) code s → IsOf (with_stripe st code s) (record k { stripes = stripes })
+stripe-kept st k kept code s absent stripes added =
     let new : has_stripe st s ≡ false = sym (ap (λ (t : Stored). t.stripes s) kept.stripes_is) ∙ absent in record {
       known = kept.known;
       seated = stripe-seated k.topology kept.known st s code kept.seated new;
       apart = kept.apart;
       table_is = kept.table_is;
-      stripes_is = own-spare k.topology (with_stripe st code s) (stored_in stripes) (spare - 1)
-          (added ∙ ap (λ (t : Stored). stored.with_stripe (stored.with_spare t spare) code s) kept.stripes_is ∙ stored-stripe k.topology st spare s code kept.seated new);
+      stripes_is = added ∙ ap (λ (t : Stored). stored.with_stripe t code s) kept.stripes_is ∙ stored-stripe k.topology st s code kept.seated new;
       leases_is = kept.leases_is;
       upgrading_is = kept.upgrading_is;
       domains_are = kept.domains_are;

@@ -1,9 +1,9 @@
 -- A walk over the rows of a list: which row is out of order, and which is the first with an answer.
-use Rattle.std.proofs.Common.{[], ◌≡◌, ◌+◌, ◌-◌, ◌<◌, ◌≤◌, ℕ, inl, inr, Bool, true, false, not, List, ◌∷◌, ◌++◌, length, get_or, take, drop, Option, Some, None, refl, sym, ap, ◌∙◌, subst, arith}
+use Rattle.std.proofs.Common.{[], ◌≡◌, ◌+◌, ◌-◌, ◌<◌, ℕ, inl, inr, Bool, true, false, not, List, ◌∷◌, ◌++◌, length, get_or, take, drop, Option, Some, None, refl, sym, ap, ◌∙◌, subst, arith}
 use Rattle.std.specs.List.{slice_get}
 use Rattle.std.specs.Option.{option_or}
 use Rattle.std.proofs.lemmas.Bool.{cases_order}
-use Rattle.std.proofs.lemmas.List.{take_more, drop_more, drop_all}
+use Rattle.std.proofs.lemmas.List.{take_more, drop_more}
 use Rattle.std.proofs.lemmas.Option.{slice_get_within, get_or_from_slice_get}
 use Rattle.lrc_rules.proofs.MemberLemmas.{list_any-member}
 use Rattle.lrc_rules.proofs.SeatingLists.{pairs-push}
@@ -50,10 +50,6 @@ module _ {X C : Type 0} (ask : List X → X → Option C) (xs : List X) where
 
   pub from-start : IsFrom 0
   from-start = refl
-
-  -- at the end there is no answer
-  pub from-end : (i : ℕ) → length xs ≤ i → IsFrom i → first_answer ask [] xs ≡ None
-  from-end i past from = sym from ∙ ap (first_answer ask (take i xs)) (drop_all i xs past)
 
   module _ (i : ℕ) (d : X) (within : i < length xs) where
     -- the element of this place

@@ -36,8 +36,6 @@ pub(crate) fn restore_leases(
             let position = leases_from(image) + index;
             return Err(RefusedRow { position, cause });
         }
-        // A store has the memory of all its leases from the start, so this can't fail.
-        store.reserve().unwrap();
         store.add_lease(&lease_of(grants, row));
     }
     Ok(())

@@ -89,8 +89,6 @@ fn add_stripe(store: &mut Store, code: Code, stripe: StripeNo)
     ensures there { IsTrue ((stored_in store.new.stripes).stripes stripe) }
     ensures bare { (f : ℕ) → (stored_in store.new.stripes).homes stripe f ≡ None }
 {
-    // A store has the memory of all its stripes from the start, so this can't fail.
-    store.stripes.reserve(1).unwrap();
     match code {
         Code::Wide => store.stripes.add(stripe),
         Code::Narrow => store.stripes.add_narrow(stripe),

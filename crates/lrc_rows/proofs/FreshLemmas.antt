@@ -18,12 +18,11 @@ use Rattle.lrc_code.proofs.BitsLemmas.{bits_set-bits_of, bits_of-bits_set, bits_
 use Rattle.lrc_topology.specs.declared.seat.Seat.{Seat}
 use Rattle.lrc_rows.specs.declared.row.Row.{Row}
 use Rattle.lrc_homes.specs.declared.losses.Losses.{Losses}
-use Rattle.lrc_terms.specs.Levels.{rank_by}
 use Rattle.lrc_rows.specs.NodeStates.{NodeStates}
 use Rattle.lrc_rows.specs.Listed.{rows_in}
 use Rattle.lrc_rows.specs.Kept.{row_has_work, IsKept, is_row_on, fresh, freshened, queued}
-use Rattle.lrc_homes.specs.Homes.{sits_on, is_missing}
-use Rattle.lrc_homes.specs.Masks.{IsMaskOf, AreLosses, AreKept, missing_of, renewed, rank_of, work_rank, risk_rank}
+use Rattle.lrc_homes.specs.Homes.{sits_on, is_missing, is_to_move}
+use Rattle.lrc_homes.specs.Masks.{IsMaskOf, AreLosses, AreKept, missing_of, renewed, risk_rank}
 use Rattle.lrc_ranks.specs.Ranks.{is_at}
 use Rattle.lrc_homes.proofs.MaskLemmas.{has-low}
 
@@ -49,26 +48,28 @@ mask-fits code test homes mask is =
 pub loosened : (online draining : NodeNo → Bool) (homes : List (Option Seat)) (l : Losses) → AreLosses l.code online draining homes l → AreKept online draining homes l
 loosened online draining homes l are = record { within = are.within; homeless = are.homeless; missing = λ some. are.missing; needs = are.needs }
 
-pub renewed-exact : (online draining : NodeNo → Bool) (homes : List (Option Seat)) (l : Losses) → AreKept online draining homes l → AreLosses l.code online draining homes (renewed online homes l)
-renewed-exact online draining homes l are = record { within = are.within; homeless = are.homeless; missing = mask-is l.code online homes; needs = are.needs }
+pub renewed-exact : (up online draining : NodeNo → Bool) (homes : List (Option Seat)) (l : Losses) → AreKept up draining homes l → AreLosses l.code online draining homes (renewed online homes l)
+renewed-exact up online draining homes l are = record { within = are.within; homeless = are.homeless; missing = mask-is l.code online homes; needs = are.needs }
+
+-- a mask that is as the homes are is the one that is recomputed
+pub mask-renewed : (code : Code) (online : NodeNo → Bool) (homes : List (Option Seat)) (mask : LossMask) → IsMaskOf code (is_missing online) homes mask → mask.bits ≡ bits_of code (missing_of code online homes)
+mask-renewed code online homes mask is = sym (bits_of-bits_set code mask.bits (mask-fits code (is_missing online) homes mask is)) ∙ ap (bits_of code) (fun_ext (λ f. is f))
 
 -- where a fragment needs a lease, the mask that is kept is as the homes are
 pub renewed-kept : (online draining : NodeNo → Bool) (homes : List (Option Seat)) (l : Losses) → AreKept online draining homes l → l.needs.bits ≢ 0 → l ≡ renewed online homes l
-renewed-kept online draining homes l are some =
-    ap (λ (b : ℕ). record l { missing = record { bits = b } })
-    (sym (bits_of-bits_set l.code l.missing.bits (mask-fits l.code (is_missing online) homes l.missing (are.missing some))) ∙ ap (bits_of l.code) (fun_ext (λ f. are.missing some f)))
+renewed-kept online draining homes l are some = ap (λ (b : ℕ). record l { missing = record { bits = b } }) (mask-renewed l.code online homes l.missing (are.missing some))
 
 zero-fits : (code : Code) → 0 < 2 ^ fragment_count code
 zero-fits Wide = lit< tt
 zero-fits Narrow = lit< tt
 
 -- a row that needs no lease, and whose homes are all on nodes that are online, misses none
-module _ (online draining : NodeNo → Bool) (q : Row) (are : AreKept online draining q.homes q.losses) (bare : q.losses.needs.bits ≡ 0)
+module _ (online draining : NodeNo → Bool) (q : Row) (needs : IsMaskOf q.losses.code (is_to_move draining) q.homes q.losses.needs) (bare : q.losses.needs.bits ≡ 0)
     (stands : (n : NodeNo) → online n ≡ false → list_any (sits_on n) q.homes ≡ true → ⊥) where
   home-stands : (f : ℕ) → has_fragment q.losses.code f ≡ true → (home : Option Seat) → get_or q.homes f None ≡ home → is_missing online home ≡ false
   home-stands f low None e =
       let none : bits_set q.losses.needs.bits f ≡ false = rw (bare, bit_at-zero f) refl in
-      let need : bits_set q.losses.needs.bits f ≡ true = are.needs f ∙ rw (low, e) refl in
+      let need : bits_set q.losses.needs.bits f ≡ true = needs f ∙ rw (low, e) refl in
       absurd (let clash : true ≡ false = sym need ∙ none in cc)
   home-stands f low (Some seat) e = elim (cases_Bool (online seat.node)) [
     | inl on ↦ rw on refl
@@ -103,9 +104,6 @@ freshened-there online list s r found = freshened-at online list s ∙ ap (optio
 pub freshened-absent : (online : NodeNo → Bool) (list : List (Option Row)) (s : StripeNo) → rows_in list s ≡ None → rows_in (freshened online list) s ≡ None
 freshened-absent online list s none = freshened-at online list s ∙ ap (option_map (fresh online)) none
 
-abbrev at : ℕ → Option Row → Bool
-at k o = is_at k (option_and_then (λ r. work_rank r.losses) o)
-
 module _ (states : NodeStates) (list : List (Option Row)) (kept : IsKept states (rows_in list)) where
   pub fresh-losses : (s : StripeNo) (r : Row) → rows_in (freshened states.online list) s ≡ Some r → AreLosses r.losses.code states.online states.draining r.homes r.losses
   fresh-losses s r found = by (rows_in list s) refl where
@@ -113,32 +111,7 @@ module _ (states : NodeStates) (list : List (Option Row)) (kept : IsKept states 
     by None none = absurd (let clash : None ≡ Some r = sym (freshened-absent states.online list s none) ∙ found in cc)
     by (Some q) there =
         subst (λ (x : Row). AreLosses x.losses.code states.online states.draining x.homes x.losses) (same_Some (fresh states.online q) r (sym (freshened-there states.online list s q there) ∙ found))
-        (renewed-exact states.online states.draining q.homes q.losses (kept.losses s q there))
-
-  pub kept-fresh : IsKept states (rows_in (freshened states.online list))
-  kept-fresh = record {
-    losses = λ s r found. loosened states.online states.draining r.homes r.losses (fresh-losses s r found);
-    listed = λ n s. kept.listed n s ∙ sym (ap (is_row_on n) (freshened-at states.online list s) ∙ on-fresh n (rows_in list s));
-  } where
-    on-fresh : (n : NodeNo) (o : Option Row) → is_row_on n (option_map (fresh states.online) o) ≡ is_row_on n o
-    on-fresh n None = refl
-    on-fresh n (Some q) = refl
-
-  -- the ranks of the stripes that have work are exact
-  pub fresh-work : queued work_rank (rows_in list) ≡ queued work_rank (rows_in (freshened states.online list))
-  fresh-work = fun_ext (λ k. fun_ext (λ s. by k s (rows_in list s) refl)) where
-    same : (k : ℕ) (s : StripeNo) (q : Row) → rows_in list s ≡ Some q → at k (Some q) ≡ at k (Some (fresh states.online q))
-    same k s q there = elim (cases_Bool (nat_eq q.losses.needs.bits 0)) [
-      | inl none ↦ rw none refl
-      | inr some ↦
-          let exact = (kept.losses s q there).missing (eqb-false _ _ some) in
-          let rank : rank_of q.losses ≡ rank_of (renewed states.online q.homes q.losses) = ap (rank_by q.losses.code) (fun_ext (λ f. exact f ∙ sym (mask-is q.losses.code states.online q.homes f))) in
-          rw some (ap (λ (n : ℕ). nat_eq n k) rank)
-    ]
-
-    by : (k : ℕ) (s : StripeNo) (o : Option Row) → rows_in list s ≡ o → at k (rows_in list s) ≡ at k (rows_in (freshened states.online list) s)
-    by k s None none = ap (at k) none ∙ sym (ap (at k) (freshened-absent states.online list s none))
-    by k s (Some q) there = ap (at k) there ∙ (same k s q there ∙ sym (ap (at k) (freshened-there states.online list s q there)))
+        (renewed-exact states.up states.online states.draining q.homes q.losses (kept.losses s q there))
 
   -- a stripe that needs no lease is not at risk where all nodes of its homes are online
   module _ (s : StripeNo) (idle : row_has_work (rows_in list s) ≡ false) (stands : (n : NodeNo) → states.online n ≡ false → states.on n s ≡ true → ⊥) where
@@ -150,7 +123,7 @@ module _ (states : NodeStates) (list : List (Option Row)) (kept : IsKept states 
       turned false e = sym e
 
     misses-none : (q : Row) → rows_in list s ≡ Some q → bits_of q.losses.code (missing_of q.losses.code states.online q.homes) ≡ 0
-    misses-none q there = none-missing states.online states.draining q (kept.losses s q there) (bare q there)
+    misses-none q there = none-missing states.online states.draining q (kept.losses s q there).needs (bare q there)
         (λ n off any. stands n off (kept.listed n s ∙ (ap (is_row_on n) there ∙ any)))
 
     pub whole-is : (k : ℕ) → queued risk_rank (rows_in (freshened states.online list)) k s ≡ false

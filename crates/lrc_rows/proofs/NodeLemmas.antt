@@ -13,7 +13,7 @@ use Rattle.lrc_topology.specs.Nodes.{place_in}
 use Rattle.lrc_nodes.specs.declared.node_state.NodeState.{NodeState}
 use Rattle.lrc_rows.specs.NodeStates.{has_node, AreNodes, IsPositionOf}
 use Rattle.lrc_ranks.specs.Sets.{has}
-use Rattle.lrc_nodes.specs.States.{first_state, numbers_in, node_position, online_in, draining_in}
+use Rattle.lrc_nodes.specs.States.{first_state, numbers_in, node_position, online_in, up_in, draining_in}
 use Rattle.lrc_nodes.proofs.StateLemmas.{IsPlaceOf, place-found, one_place}
 use Rattle.lrc_nodes.proofs.SetLemmas.{AreSameNodes}
 
@@ -29,6 +29,17 @@ online-at_first_at (x ∷ nodes) n = elim (cases_Bool (nat_eq n.value x.number.v
 -- every node is online
 pub online-at_first : (nodes : List NodeInfo) → online_in (map first_state nodes) ≡ has_node nodes
 online-at_first nodes = fun_ext (λ n. online-at_first_at nodes n)
+
+up-at_first_at : (nodes : List NodeInfo) (n : NodeNo) → up_in (map first_state nodes) n ≡ has_node nodes n
+up-at_first_at [] n = refl
+up-at_first_at (x ∷ nodes) n = elim (cases_Bool (nat_eq n.value x.number.value)) [
+  | inl here ↦ rw here refl
+  | inr later ↦ rw later (up-at_first_at nodes n)
+]
+
+-- every node is up
+pub up-at_first : (nodes : List NodeInfo) → up_in (map first_state nodes) ≡ has_node nodes
+up-at_first nodes = fun_ext (λ n. up-at_first_at nodes n)
 
 draining-at_first_at : (nodes : List NodeInfo) (n : NodeNo) → draining_in (map first_state nodes) n ≡ false
 draining-at_first_at [] n = refl

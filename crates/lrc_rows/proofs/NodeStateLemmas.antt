@@ -16,8 +16,8 @@ use Rattle.lrc_topology.specs.Nodes.{node_at}
 use Rattle.lrc_nodes.specs.declared.node_state.NodeState.{NodeState}
 use Rattle.lrc_rows.specs.NodeStates.{has_node, NodeStates, NodeLists, states_in, first_states, IsPositionOf}
 use Rattle.lrc_ranks.specs.Sets.{has}
-use Rattle.lrc_nodes.specs.States.{first_state, is_node_online, is_node_offline, is_node_draining, infos_in, state_at, node_position, online_in, draining_in}
-use Rattle.lrc_rows.proofs.NodeLemmas.{on-changed, online-at_first, draining-at_first, sets-none}
+use Rattle.lrc_nodes.specs.States.{first_state, is_node_online, is_node_offline, is_node_up, is_node_draining, infos_in, state_at, node_position, online_in, up_in, draining_in}
+use Rattle.lrc_rows.proofs.NodeLemmas.{on-changed, online-at_first, up-at_first, draining-at_first, sets-none}
 use Rattle.lrc_nodes.proofs.StateLemmas.{no_state, place_number, state_at-place, state_at-past, node_at-states, nodes-at_first}
 
 and-false : (b : Bool) → (b && false) ≡ false
@@ -58,6 +58,10 @@ module _ (states : List NodeState) (sets : List (List Bool)) (t : NodeLists) (vi
   unfolding states_in
   missed-online none = subst (λ (x : NodeLists). false ≡ (states_in x).online n) view (rw (missed-state none) refl)
 
+  pub missed-up : IsPositionOf t n None → false ≡ (states_in t).up n
+  unfolding states_in
+  missed-up none = subst (λ (x : NodeLists). false ≡ (states_in x).up n) view (rw (missed-state none) refl)
+
   pub missed-draining : IsPositionOf t n None → false ≡ (states_in t).draining n
   unfolding states_in
   missed-draining none = subst (λ (x : NodeLists). false ≡ (states_in x).draining n) view (rw (missed-state none) refl)
@@ -92,6 +96,10 @@ module _ (states : List NodeState) (sets : List (List Bool)) (t : NodeLists) (vi
     pub found-online : is_node_online x ≡ (states_in t).online n
     unfolding states_in
     found-online = subst (λ (y : NodeLists). is_node_online x ≡ (states_in y).online n) view (rw found-state refl)
+
+    pub found-up : is_node_up x ≡ (states_in t).up n
+    unfolding states_in
+    found-up = subst (λ (y : NodeLists). is_node_up x ≡ (states_in y).up n) view (rw found-state refl)
 
     pub found-draining : is_node_draining x ≡ (states_in t).draining n
     unfolding states_in
@@ -177,10 +185,11 @@ pub states_in-at_first : (states : List NodeState) (sets : List (List Bool)) (no
 unfolding states_in
 states_in-at_first states sets nodes made none =
     let on_none : (λ (n : NodeNo). has (get_or sets (node_position states n) [])) ≡ (λ n s. false) = fun_ext (λ n. sets-none sets none (node_position states n)) in
-    ap (λ (on : NodeNo → StripeNo → Bool). let now : NodeStates = record { list = states; nodes = infos_in states; online = online_in states; draining = draining_in states; on = on } in now) on_none
-    ∙ ap (λ (xs : List NodeState). let now : NodeStates = record { list = xs; nodes = infos_in xs; online = online_in xs; draining = draining_in xs; on = λ n s. false } in now) made
-    ∙ ap (λ (ns : List NodeInfo). record (first_states nodes) { nodes = ns; online = online_in (map first_state nodes); draining = draining_in (map first_state nodes) }) (nodes-at_first nodes)
-    ∙ ap₂ (λ (o b : NodeNo → Bool). record (first_states nodes) { online = o; draining = b }) (online-at_first nodes) (draining-at_first nodes)
+    ap (λ (on : NodeNo → StripeNo → Bool). let now : NodeStates = record { list = states; nodes = infos_in states; online = online_in states; up = up_in states; draining = draining_in states; on = on } in now) on_none
+    ∙ ap (λ (xs : List NodeState). let now : NodeStates = record { list = xs; nodes = infos_in xs; online = online_in xs; up = up_in xs; draining = draining_in xs; on = λ n s. false } in now) made
+    ∙ ap (λ (ns : List NodeInfo). record (first_states nodes) { nodes = ns; online = online_in (map first_state nodes); up = up_in (map first_state nodes); draining = draining_in (map first_state nodes) }) (nodes-at_first nodes)
+    ∙ ap₂ (λ (o b : NodeNo → Bool). record (first_states nodes) { online = o; up = up_in (map first_state nodes); draining = b }) (online-at_first nodes) (draining-at_first nodes)
+    ∙ ap (λ (o : NodeNo → Bool). record (first_states nodes) { up = o }) (up-at_first nodes)
 
 -- ---- a stripe taken off several homes
 

@@ -1,5 +1,5 @@
 -- The offline nodes by their numbers, and the missing fragments that follow from them.
-use Rattle.std.proofs.Common.{◌≡◌, ◌≢◌, ℕ, zero, suc, ◌+◌, ◌-◌, ◌<◌, ◌≤◌, ◌^◌, inl, inr, Bool, true, false, not, if◌then◌else◌, ◌&&◌, ◌||◌, nat_lt, bit_or, List, [], ◌∷◌, ◌++◌, map, length, take, get_or, Option, Some, None, is_none, option_map, arith, refl, sym, ap, ap₂, ◌∙◌, subst}
+use Rattle.std.proofs.Common.{◌≡◌, ◌≢◌, ℕ, zero, suc, ◌+◌, ◌-◌, ◌<◌, ◌≤◌, ◌^◌, inl, inr, Bool, true, false, not, if◌then◌else◌, ◌&&◌, ◌||◌, nat_lt, bit_or, List, [], ◌∷◌, ◌++◌, map, length, take, get_or, Option, Some, None, is_none, arith, refl, sym, ap, ap₂, ◌∙◌, subst}
 use Rattle.std.proofs.Math.Path.{fun_ext}
 use Rattle.std.specs.List.{AllPairs, list_any}
 use Rattle.std.specs.Option.{option_map_or}
@@ -10,22 +10,20 @@ use Rattle.lrc_code.specs.declared.codes.Code.{Code}
 use Rattle.lrc_code.specs.declared.losses.LossMask.{LossMask}
 use Rattle.lrc_code.specs.declared.numbers.NodeNo.{NodeNo}
 use Rattle.lrc_code.specs.declared.numbers.StripeNo.{StripeNo}
-use Rattle.lrc_code.specs.declared.numbers.UpgradeNo.{UpgradeNo}
-use Rattle.lrc_code.specs.Numbers.{same_node, same_upgrade}
-use Rattle.lrc_topology.specs.declared.NodeInfo.{NodeInfo}
+use Rattle.lrc_code.specs.Numbers.{same_node}
 use Rattle.lrc_code.specs.Codes.{fragment_count, has_fragment}
 use Rattle.lrc_code.specs.Losses.{bits_set, bits_of}
 use Rattle.lrc_code.proofs.NumbersLemmas.{equal_nodes}
 use Rattle.lrc_code.proofs.BitsLemmas.{bits_of-bits_set, fits-within}
 use Rattle.lrc_topology.specs.declared.seat.Seat.{Seat}
 use Rattle.lrc_nodes.specs.declared.node_state.NodeState.{NodeState}
-use Rattle.lrc_nodes.specs.States.{is_node_online, is_node_offline, infos_in, node_position, online_in}
-use Rattle.lrc_nodes.proofs.StateLemmas.{no_state, place_number, state_at-place, node_at-states}
+use Rattle.lrc_nodes.specs.States.{is_node_online, is_node_offline, node_position, online_in}
+use Rattle.lrc_nodes.proofs.StateLemmas.{no_state, place_number, state_at-place}
 use Rattle.lrc_ranks.specs.Sets.{has}
 use Rattle.lrc_homes.specs.Homes.{sits_on, is_missing}
 use Rattle.lrc_homes.specs.Masks.{AreWithin, IsMaskOf, missing_of}
 use Rattle.lrc_homes.proofs.MaskLemmas.{has-low, put-in}
-use Rattle.lrc_rows.specs.NodeStates.{NodeStates, NodeLists, states_in, is_outside, AreOffline}
+use Rattle.lrc_rows.specs.NodeStates.{NodeStates, NodeLists, states_in, AreOffline}
 use Rattle.lrc_rows.proofs.NodeStateLemmas.{not-not, or-false, same-turned}
 use Rattle.lrc_rows.proofs.ShortLemmas.{online-there}
 
@@ -111,51 +109,6 @@ are-offline states sets t view long apart numbers same = record {
       ap (states_in t).online own ∙ (online-there states sets t view apart found.0 no_state found.1 ∙ said);
   all = λ n s off on. same n ∙ off-all states sets t view long n s off on;
 }
-
--- ---- the offline nodes outside a domain
-
--- each offline node up to here is outside the domain
-abbrev pub AreOutside : List NodeState → UpgradeNo → ℕ → Type 0
-AreOutside states u from = (i : ℕ) → i < from → get_or (map is_node_offline states) i false ≡ true → same_upgrade (get_or states i no_state).node.upgrade u ≡ false
-
--- one more is
-pub outside-more : (states : List NodeState) (u : UpgradeNo) (from p : ℕ) → ((i : ℕ) → from ≤ i → i < p → get_or (map is_node_offline states) i false ≡ false)
-    → same_upgrade (get_or states p no_state).node.upgrade u ≡ false → AreOutside states u from → AreOutside states u (p + 1)
-outside-more states u from p none out before i low hit = elim (cases_lt i from) [
-  | inl less ↦ before i less hit
-  | inr more ↦ elim (cases_lt i p) [
-    | inl between ↦ absurd (let clash : true ≡ false = sym hit ∙ none i more between in cc)
-    | inr past ↦ let same : i ≡ p = omega (arith, low, past) in ap (λ (k : ℕ). same_upgrade (get_or states k no_state).node.upgrade u) same ∙ out
-  ]
-]
-
--- where none is offline from here on, all are
-pub outside-all : (states : List NodeState) (u : UpgradeNo) (from : ℕ) → ((i : ℕ) → from ≤ i → get_or (map is_node_offline states) i false ≡ false) → AreOutside states u from
-    → (i : ℕ) → get_or (map is_node_offline states) i false ≡ true → same_upgrade (get_or states i no_state).node.upgrade u ≡ false
-outside-all states u from none before i hit = elim (cases_lt i from) [
-  | inl less ↦ before i less hit
-  | inr more ↦ absurd (let clash : true ≡ false = sym hit ∙ none i more in cc)
-]
-
-outside-listed : (states : List NodeState) (sets : List (List Bool)) (u : UpgradeNo) → length sets ≡ length states
-    → ((i : ℕ) → get_or (map is_node_offline states) i false ≡ true → same_upgrade (get_or states i no_state).node.upgrade u ≡ false)
-    → (n : NodeNo) (s : StripeNo) → online_in states n ≡ false → has (get_or sets (node_position states n) []) s ≡ true → is_outside (infos_in states) u n ≡ true
-outside-listed states sets u long out n s off on = elim (cases_lt (node_position states n) (length states)) [
-  | inr past ↦ absurd (let none = get_or_past sets (node_position states n) [] (omega (arith, past, long)) in let clash : true ≡ false = sym on ∙ ap (λ (bits : List Bool). has bits s) none in cc)
-  | inl within ↦
-      let x = get_or states (node_position states n) no_state in
-      let at = state_at-place states n no_state within in
-      let down : is_node_offline x ≡ true = ap not (sym (ap (λ (o : Option NodeState). option_map_or is_node_online o false) at) ∙ off) in
-      ap (λ (o : Option NodeInfo). option_map_or (λ (m : NodeInfo). not (same_upgrade m.upgrade u)) o false) (node_at-states states n ∙ ap (option_map (λ (y : NodeState). y.node)) at)
-      ∙ ap not (out (node_position states n) (get_or-map is_node_offline states (node_position states n) no_state false within ∙ down))
-]
-
-pub are-outside : (states : List NodeState) (sets : List (List Bool)) (t : NodeLists) (view : ◌≡◌ {A = NodeLists} (record { list = states; stripes = sets }) t) (u : UpgradeNo) → length sets ≡ length states
-    → ((i : ℕ) → get_or (map is_node_offline states) i false ≡ true → same_upgrade (get_or states i no_state).node.upgrade u ≡ false)
-    → (n : NodeNo) (s : StripeNo) → (states_in t).online n ≡ false → (states_in t).on n s ≡ true → is_outside (states_in t).nodes u n ≡ true
-unfolding states_in
-are-outside states sets t view u long out n s =
-    subst (λ (y : NodeLists). (states_in y).online n ≡ false → (states_in y).on n s ≡ true → is_outside (states_in y).nodes u n ≡ true) view (outside-listed states sets u long out n s)
 
 -- ---- the missing fragments
 

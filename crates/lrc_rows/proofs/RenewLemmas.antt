@@ -10,7 +10,7 @@ use Rattle.lrc_code.specs.declared.losses.LossMask.{LossMask}
 use Rattle.lrc_code.specs.declared.numbers.StripeNo.{StripeNo}
 use Rattle.lrc_code.specs.declared.numbers.NodeNo.{NodeNo}
 use Rattle.lrc_code.specs.declared.numbers.UpgradeNo.{UpgradeNo}
-use Rattle.lrc_code.specs.Numbers.{same_node, same_upgrade}
+use Rattle.lrc_code.specs.Numbers.{same_node}
 use Rattle.lrc_code.proofs.NumbersLemmas.{equal_nodes}
 use Rattle.lrc_code.specs.Codes.{has_fragment}
 use Rattle.lrc_code.specs.Losses.{bits_set}
@@ -19,18 +19,16 @@ use Rattle.lrc_topology.specs.declared.seat.Seat.{Seat}
 use Rattle.lrc_terms.specs.declared.mode.Mode.{Mode}
 use Rattle.lrc_terms.specs.Modes.{is_draining}
 use Rattle.lrc_nodes.specs.declared.node_state.NodeState.{NodeState}
-use Rattle.lrc_nodes.specs.States.{infos_in, state_at, online_in, draining_in, with_state, with_upgrading_in}
-use Rattle.lrc_nodes.proofs.SetLemmas.{AreSameNodes, same-state, online-state, draining-state, same-upgrading, draining-upgrading, online-upgraded}
+use Rattle.lrc_nodes.specs.States.{state_at, up_in, draining_in, with_state, with_upgrading_in}
+use Rattle.lrc_nodes.proofs.SetLemmas.{AreSameNodes, same-state, up-state, draining-state, same-upgrading, up-upgrading, draining-upgrading}
 use Rattle.lrc_ranks.specs.Sets.{has}
 use Rattle.lrc_homes.specs.declared.home_domains.HomeDomains.{HomeDomains}
-use Rattle.lrc_homes.specs.Domains.{AreDomainsKept}
+use Rattle.lrc_homes.specs.Domains.{AreDomainsOf}
 use Rattle.lrc_rows.specs.declared.row.Row.{Row}
-use Rattle.lrc_terms.specs.Levels.{Homes}
-use Rattle.lrc_rows.specs.NodeStates.{NodeLists, NodeStates, states_in, is_in_domain, AreAlikeOutside}
+use Rattle.lrc_rows.specs.NodeStates.{NodeLists, NodeStates, states_in}
 use Rattle.lrc_homes.specs.Homes.{sits_on, is_missing, is_to_move}
-use Rattle.lrc_rows.specs.Listed.{row_homes}
 use Rattle.lrc_homes.specs.Masks.{IsMaskOf, AreWithin, IsPutOn, AreKept}
-use Rattle.lrc_rows.specs.Kept.{IsKept, is_row_on, AreSameStripes, AreRenewed, IsRenewed, IsMissingOn, IsToMoveOn}
+use Rattle.lrc_rows.specs.Kept.{IsKept, AreRowDomains, is_row_on, AreSameStripes, AreRenewed, IsRenewed, IsMissingOn, IsToMoveOn}
 use Rattle.lrc_homes.proofs.MaskLemmas.{has-low}
 use Rattle.lrc_rows.proofs.FreshLemmas.{mask-is}
 use Rattle.lrc_rows.proofs.NodeStateLemmas.{not-not}
@@ -99,14 +97,21 @@ same-then first second third one two = record { there = λ s. two.there s ∙ on
 
 -- ---- what is kept
 
--- what is kept depends on the nodes that are online or draining, and on the stripes on each
-pub kept-as : (z y : NodeStates) (rows : StripeNo → Option Row) → y.online ≡ z.online → y.draining ≡ z.draining → y.on ≡ z.on → IsKept z rows → IsKept y rows
-kept-as z y rows online draining on kept = record {
-  losses = λ s r there. subst (λ (o : NodeNo → Bool). AreKept o y.draining r.homes r.losses) (sym online) (subst (λ (d : NodeNo → Bool). AreKept z.online d r.homes r.losses) (sym draining) (kept.losses s r there));
+-- the domains of a row stay where its homes do
+row-domains : (nodes : List NodeInfo) (q r : Row) → r.homes ≡ q.homes → r.domains ≡ q.domains → AreRowDomains nodes q → AreRowDomains nodes r
+row-domains nodes q r homes domains had =
+    subst (λ (d : HomeDomains). AreDomainsOf nodes (λ f. get_or r.homes f None) d) (sym domains)
+    (subst (λ (hs : List (Option Seat)). AreDomainsOf nodes (λ f. get_or hs f None) q.domains) (sym homes) had)
+
+-- what is kept depends on the nodes, on those that are up or draining, and on the stripes on each
+pub kept-as : (z y : NodeStates) (rows : StripeNo → Option Row) → y.nodes ≡ z.nodes → y.up ≡ z.up → y.draining ≡ z.draining → y.on ≡ z.on → IsKept z rows → IsKept y rows
+kept-as z y rows nodes up draining on kept = record {
+  losses = λ s r there. subst (λ (o : NodeNo → Bool). AreKept o y.draining r.homes r.losses) (sym up) (subst (λ (d : NodeNo → Bool). AreKept z.up d r.homes r.losses) (sym draining) (kept.losses s r there));
+  domains = λ s r there. subst (λ (ns : List NodeInfo). AreRowDomains ns r) (sym nodes) (kept.domains s r there);
   listed = λ n s. ap (λ (o : NodeNo → StripeNo → Bool). o n s) on ∙ kept.listed n s;
 }
 
--- ---- a node is online or not, or draining or not
+-- ---- a node is up or not, or draining or not
 
 module _ (z : NodeStates) (rows rows' : StripeNo → Option Row) (kept : IsKept z rows) (n : NodeNo) (b : Bool) where
   -- a row that is not among those on the node has no home there
@@ -114,43 +119,44 @@ module _ (z : NodeStates) (rows rows' : StripeNo → Option Row) (kept : IsKept 
   off-node x q miss there = sym (kept.listed n x ∙ ap (is_row_on n) there) ∙ miss
 
   module _ (renewed : AreRenewed (z.on n) (IsMissingOn n b) rows rows') where
-    abbrev online' : NodeNo → Bool
-    online' m = cond (same_node n m) (not b) (z.online m)
+    abbrev up' : NodeNo → Bool
+    up' m = cond (same_node n m) (not b) (z.up m)
 
-    missing-on : (home : Option Seat) → sits_on n home ≡ true → is_missing online' home ≡ b
+    missing-on : (home : Option Seat) → sits_on n home ≡ true → is_missing up' home ≡ b
     missing-on None hit = absurd (cc)
     missing-on (Some seat) hit = rw hit (not-not b)
 
-    missing-off : (home : Option Seat) → sits_on n home ≡ false → is_missing online' home ≡ is_missing z.online home
+    missing-off : (home : Option Seat) → sits_on n home ≡ false → is_missing up' home ≡ is_missing z.up home
     missing-off None miss = refl
     missing-off (Some seat) miss = rw miss refl
 
-    pub kept-offline : IsKept (record z { online = online' }) rows'
-    kept-offline = record {
+    pub kept-down : IsKept (record z { up = up' }) rows'
+    kept-down = record {
       losses = each-of (z.on n) (IsMissingOn n b) rows rows' renewed
-          (λ q. AreKept z.online z.draining q.homes q.losses) (λ q. AreKept online' z.draining q.homes q.losses) kept.losses
+          (λ q. AreKept z.up z.draining q.homes q.losses) (λ q. AreKept up' z.draining q.homes q.losses) kept.losses
           (λ q r gives had. record {
             within = subst (λ (hs : List (Option Seat)). AreWithin r.losses.code hs) (sym gives.homes) (subst (λ (code : Code). AreWithin code q.homes) (sym gives.code) had.within);
             homeless = subst (λ (hs : List (Option Seat)). (f : ℕ) → bits_set r.losses.homeless.bits f ≡ (has_fragment r.losses.code f && is_none (get_or hs f None))) (sym gives.homes)
                 (λ f. ap (λ (m : LossMask). bits_set m.bits f) gives.homeless ∙ (had.homeless f ∙ ap (λ (code : Code). has_fragment code f && is_none (get_or q.homes f None)) (sym gives.code)));
             missing = λ some.
                 let work : q.losses.needs.bits ≢ 0 = λ empty. some (ap (λ (m : LossMask). m.bits) gives.needs ∙ empty) in
-                subst (λ (hs : List (Option Seat)). IsMaskOf r.losses.code (is_missing online') hs r.losses.missing) (sym gives.homes)
-                (subst (λ (code : Code). IsMaskOf code (is_missing online') q.homes r.losses.missing) (sym gives.code)
-                (mask-put q.losses.code n b (is_missing z.online) (is_missing online') missing-on missing-off q.homes q.losses.missing r.losses.missing had.within (had.missing work) (gives.missing work)));
+                subst (λ (hs : List (Option Seat)). IsMaskOf r.losses.code (is_missing up') hs r.losses.missing) (sym gives.homes)
+                (subst (λ (code : Code). IsMaskOf code (is_missing up') q.homes r.losses.missing) (sym gives.code)
+                (mask-put q.losses.code n b (is_missing z.up) (is_missing up') missing-on missing-off q.homes q.losses.missing r.losses.missing had.within (had.missing work) (gives.missing work)));
             needs = subst (λ (hs : List (Option Seat)). (f : ℕ) → bits_set r.losses.needs.bits f ≡ (has_fragment r.losses.code f && is_to_move z.draining (get_or hs f None))) (sym gives.homes)
                 (λ f. ap (λ (m : LossMask). bits_set m.bits f) gives.needs ∙ (had.needs f ∙ ap (λ (code : Code). has_fragment code f && is_to_move z.draining (get_or q.homes f None)) (sym gives.code)));
           })
           (λ x q miss there had. record {
             within = had.within;
             homeless = had.homeless;
-            missing = λ some. mask-stays q.losses.code n b (is_missing z.online) (is_missing online') missing-on missing-off q.homes q.losses.missing q.sixteen (off-node x q miss there) (had.missing some);
+            missing = λ some. mask-stays q.losses.code n b (is_missing z.up) (is_missing up') missing-on missing-off q.homes q.losses.missing q.sixteen (off-node x q miss there) (had.missing some);
             needs = had.needs;
           });
+      domains = each-of (z.on n) (IsMissingOn n b) rows rows' renewed (AreRowDomains z.nodes) (AreRowDomains z.nodes) kept.domains (λ q r gives had. row-domains z.nodes q r gives.homes gives.domains had) (λ x q miss there had. had);
       listed = λ m x. kept.listed m x ∙ sym (same-of (z.on n) (IsMissingOn n b) rows rows' renewed (is_row_on m) (λ q r gives. ap (λ (hs : List (Option Seat)). list_any (sits_on m) hs) gives.homes) x);
     }
 
-  module _ (renewed : AreRenewed (z.on n) (IsToMoveOn z.online n b) rows rows') where
+  module _ (renewed : AreRenewed (z.on n) (IsToMoveOn z.up n b) rows rows') where
     abbrev draining' : NodeNo → Bool
     draining' m = cond (same_node n m) b (z.draining m)
 
@@ -164,14 +170,14 @@ module _ (z : NodeStates) (rows rows' : StripeNo → Option Row) (kept : IsKept 
 
     pub kept-draining : IsKept (record z { draining = draining' }) rows'
     kept-draining = record {
-      losses = each-of (z.on n) (IsToMoveOn z.online n b) rows rows' renewed
-          (λ q. AreKept z.online z.draining q.homes q.losses) (λ q. AreKept z.online draining' q.homes q.losses) kept.losses
+      losses = each-of (z.on n) (IsToMoveOn z.up n b) rows rows' renewed
+          (λ q. AreKept z.up z.draining q.homes q.losses) (λ q. AreKept z.up draining' q.homes q.losses) kept.losses
           (λ q r gives had. record {
             within = subst (λ (hs : List (Option Seat)). AreWithin r.losses.code hs) (sym gives.homes) (subst (λ (code : Code). AreWithin code q.homes) (sym gives.code) had.within);
             homeless = subst (λ (hs : List (Option Seat)). (f : ℕ) → bits_set r.losses.homeless.bits f ≡ (has_fragment r.losses.code f && is_none (get_or hs f None))) (sym gives.homes)
                 (λ f. ap (λ (m : LossMask). bits_set m.bits f) gives.homeless ∙ (had.homeless f ∙ ap (λ (code : Code). has_fragment code f && is_none (get_or q.homes f None)) (sym gives.code)));
-            missing = λ some. subst (λ (hs : List (Option Seat)). (f : ℕ) → bits_set r.losses.missing.bits f ≡ (has_fragment r.losses.code f && is_missing z.online (get_or hs f None))) (sym gives.homes)
-                (λ f. ap (λ (m : LossMask). bits_set m.bits f) gives.missing ∙ (mask-is q.losses.code z.online q.homes f ∙ ap (λ (code : Code). has_fragment code f && is_missing z.online (get_or q.homes f None)) (sym gives.code)));
+            missing = λ some. subst (λ (hs : List (Option Seat)). (f : ℕ) → bits_set r.losses.missing.bits f ≡ (has_fragment r.losses.code f && is_missing z.up (get_or hs f None))) (sym gives.homes)
+                (λ f. ap (λ (m : LossMask). bits_set m.bits f) gives.missing ∙ (mask-is q.losses.code z.up q.homes f ∙ ap (λ (code : Code). has_fragment code f && is_missing z.up (get_or q.homes f None)) (sym gives.code)));
             needs = subst (λ (hs : List (Option Seat)). IsMaskOf r.losses.code (is_to_move draining') hs r.losses.needs) (sym gives.homes)
                 (subst (λ (code : Code). IsMaskOf code (is_to_move draining') q.homes r.losses.needs) (sym gives.code)
                 (mask-put q.losses.code n b (is_to_move z.draining) (is_to_move draining') to_move-on to_move-off q.homes q.losses.needs r.losses.needs had.within had.needs gives.needs));
@@ -182,25 +188,26 @@ module _ (z : NodeStates) (rows rows' : StripeNo → Option Row) (kept : IsKept 
             missing = had.missing;
             needs = mask-stays q.losses.code n b (is_to_move z.draining) (is_to_move draining') to_move-on to_move-off q.homes q.losses.needs q.sixteen (off-node x q miss there) had.needs;
           });
-      listed = λ m x. kept.listed m x ∙ sym (same-of (z.on n) (IsToMoveOn z.online n b) rows rows' renewed (is_row_on m) (λ q r gives. ap (λ (hs : List (Option Seat)). list_any (sits_on m) hs) gives.homes) x);
+      domains = each-of (z.on n) (IsToMoveOn z.up n b) rows rows' renewed (AreRowDomains z.nodes) (AreRowDomains z.nodes) kept.domains (λ q r gives had. row-domains z.nodes q r gives.homes gives.domains had) (λ x q miss there had. had);
+      listed = λ m x. kept.listed m x ∙ sym (same-of (z.on n) (IsToMoveOn z.up n b) rows rows' renewed (is_row_on m) (λ q r gives. ap (λ (hs : List (Option Seat)). list_any (sits_on m) hs) gives.homes) x);
     }
 
 -- the masks follow the node, where those of the other nodes are as they are told
-pub online-follows : (z : NodeStates) (online : NodeNo → Bool) (n : NodeNo) (rows rows' : StripeNo → Option Row) → IsKept (record z { online = online }) rows
-    → AreRenewed (z.on n) (IsMissingOn n (not (z.online n))) rows rows' → IsKept (record z { online = λ m. if same_node m n then z.online m else online m }) rows'
-online-follows z online n rows rows' kept renewed =
-    kept-as (record z { online = λ m. cond (same_node n m) (not (not (z.online n))) (online m) }) (record z { online = λ m. if same_node m n then z.online m else online m }) rows'
+pub up-follows : (z : NodeStates) (up : NodeNo → Bool) (n : NodeNo) (rows rows' : StripeNo → Option Row) → IsKept (record z { up = up }) rows
+    → AreRenewed (z.on n) (IsMissingOn n (not (z.up n))) rows rows' → IsKept (record z { up = λ m. if same_node m n then z.up m else up m }) rows'
+up-follows z up n rows rows' kept renewed =
+    kept-as (record z { up = λ m. cond (same_node n m) (not (not (z.up n))) (up m) }) (record z { up = λ m. if same_node m n then z.up m else up m }) rows' refl
     (fun_ext (λ m. elim (cases_eq m.value n.value) [
-      | inl same ↦ rw (eq-eqb _ _ same, eq-eqb _ _ (sym same)) (ap z.online (equal_nodes m n same) ∙ sym (not-not (z.online n)))
+      | inl same ↦ rw (eq-eqb _ _ same, eq-eqb _ _ (sym same)) (ap z.up (equal_nodes m n same) ∙ sym (not-not (z.up n)))
       | inr other ↦ rw (ne_eqb _ _ other, ne_eqb _ _ (λ e. other (sym e))) refl
     ])) refl refl
-    (kept-offline (record z { online = online }) rows rows' kept n (not (z.online n)) renewed)
+    (kept-down (record z { up = up }) rows rows' kept n (not (z.up n)) renewed)
 
 -- where only one node may be told otherwise, the masks follow all
 pub told-follows : (z : NodeStates) (n : NodeNo) (was : Bool) (rows : StripeNo → Option Row)
-    → IsKept (record z { online = λ m. if same_node m n then z.online m else (if same_node n m then was else z.online m) }) rows → IsKept z rows
+    → IsKept (record z { up = λ m. if same_node m n then z.up m else (if same_node n m then was else z.up m) }) rows → IsKept z rows
 told-follows z n was rows kept =
-    kept-as (record z { online = λ m. if same_node m n then z.online m else (if same_node n m then was else z.online m) }) z rows
+    kept-as (record z { up = λ m. if same_node m n then z.up m else (if same_node n m then was else z.up m) }) z rows refl
     (fun_ext (λ m. elim (cases_eq m.value n.value) [
       | inl same ↦ rw (eq-eqb _ _ same) refl
       | inr other ↦ rw (ne_eqb _ _ other, ne_eqb _ _ (λ e. other (sym e))) refl
@@ -214,61 +221,25 @@ unfolding states_in
 on-stays t list same = fun_ext (λ m. ap (λ (q : ℕ). has (get_or t.stripes q [])) (same.positions m))
 
 -- what is kept where the node drains or not, as it does after its state is set
-pub kept-state : (t : NodeLists) (n : NodeNo) (mode : Mode) (b was drains : Bool) (rows : StripeNo → Option Row) → IsSome (state_at t.list n) → was ≡ (states_in t).online n → drains ≡ is_draining mode
+pub kept-state : (t : NodeLists) (n : NodeNo) (mode : Mode) (b was drains : Bool) (rows : StripeNo → Option Row) → IsSome (state_at t.list n) → was ≡ (states_in t).up n → drains ≡ is_draining mode
     → IsKept (record (states_in t) { draining = λ m. if same_node n m then drains else (states_in t).draining m }) rows
-    → IsKept (record (states_in (record t { list = with_state t.list n mode b })) { online = λ m. if same_node n m then was else (states_in (record t { list = with_state t.list n mode b })).online m }) rows
+    → IsKept (record (states_in (record t { list = with_state t.list n mode b })) { up = λ m. if same_node n m then was else (states_in (record t { list = with_state t.list n mode b })).up m }) rows
 unfolding states_in
 kept-state t n mode b was drains rows there on drain =
     let list = with_state t.list n mode b in
     let new : NodeStates = states_in (record t { list = list }) in
-    kept-as (record (states_in t) { draining = λ m. if same_node n m then drains else (states_in t).draining m }) (record new { online = λ m. if same_node n m then was else new.online m }) rows
+    kept-as (record (states_in t) { draining = λ m. if same_node n m then drains else (states_in t).draining m }) (record new { up = λ m. if same_node n m then was else new.up m }) rows
+    (same-state t.list n mode b).nodes
     (fun_ext (λ m. elim (cases_eq n.value m.value) [
-      | inl same ↦ rw (eq-eqb _ _ same) (on ∙ ap (online_in t.list) (equal_nodes n m same))
-      | inr other ↦ let miss : nat_eq n.value m.value ≡ false = ne_eqb _ _ other in rw miss (online-state t.list n mode b m miss)
+      | inl same ↦ rw (eq-eqb _ _ same) (on ∙ ap (up_in t.list) (equal_nodes n m same))
+      | inr other ↦ let miss : nat_eq n.value m.value ≡ false = ne_eqb _ _ other in rw miss (up-state t.list n mode b m miss)
     ]))
     (draining-state t.list n mode b there ∙ fun_ext (λ m. ap (λ (x : Bool). if same_node n m then x else draining_in t.list m) (sym drain)))
     (on-stays t list (same-state t.list n mode b))
 
--- what is kept where the domain is upgrading, but for the nodes of the domain that are online
-pub kept-upgrading : (t : NodeLists) (u : UpgradeNo) (b : Bool) (rows : StripeNo → Option Row) → IsKept (states_in t) rows
-    → IsKept (record (states_in (record t { list = with_upgrading_in t.list u b })) { online = (states_in t).online }) rows
+-- what is kept stays where nodes are upgrading or no longer
+pub kept-upgrading : (t : NodeLists) (u : UpgradeNo) (b : Bool) (rows : StripeNo → Option Row) → IsKept (states_in t) rows → IsKept (states_in (record t { list = with_upgrading_in t.list u b })) rows
 unfolding states_in
 kept-upgrading t u b rows kept =
-    let new : NodeStates = states_in (record t { list = with_upgrading_in t.list u b }) in
-    kept-as (states_in t) (record new { online = (states_in t).online }) rows refl (draining-upgrading t.list u b) (on-stays t (with_upgrading_in t.list u b) (same-upgrading t.list u b)) kept
-
--- a node outside the domain is online as before
-online-out : (u : UpgradeNo) (b : Bool) (m : NodeNo) (states : List NodeState) → is_in_domain (infos_in states) u m ≡ false → online_in states m ≡ online_in (with_upgrading_in states u b) m
-online-out u b m [] none = refl
-online-out u b m (x ∷ states) none = elim (cases_Bool (nat_eq m.value x.node.number.value)) [
-  | inl here ↦ let out : same_upgrade x.node.upgrade u ≡ false = rw here at none in rw (out, here) refl
-  | inr later ↦
-      let rest = online-out u b m states (rw later at none) in
-      elim (cases_Bool (same_upgrade x.node.upgrade u)) [
-        | inl of ↦ rw (of, later) rest
-        | inr out ↦ rw (out, later) rest
-      ]
-]
-
-pub online-outside : (t : NodeLists) (u : UpgradeNo) (b : Bool) → AreAlikeOutside (states_in (record t { list = with_upgrading_in t.list u b })).nodes u (states_in t).online (states_in (record t { list = with_upgrading_in t.list u b })).online
-unfolding states_in
-online-outside t u b m none = online-out u b m t.list (ap (λ (ns : List NodeInfo). is_in_domain ns u m) (sym (same-upgrading t.list u b).nodes) ∙ none)
-
--- where the domain is upgrading, each of its nodes is offline
-pub offline-within : (t : NodeLists) (u : UpgradeNo) (m : NodeNo) → is_in_domain (states_in (record t { list = with_upgrading_in t.list u true })).nodes u m ≡ true
-    → (states_in (record t { list = with_upgrading_in t.list u true })).online m ≡ false
-unfolding states_in
-offline-within t u m hit =
-    let own : is_in_domain (infos_in t.list) u m ≡ true = ap (λ (ns : List NodeInfo). is_in_domain ns u m) (sym (same-upgrading t.list u true).nodes) ∙ hit in
-    online-upgraded t.list u m ∙ (ap (λ (b : Bool). online_in t.list m && not b) own ∙ bare (online_in t.list m)) where
-      bare : (b : Bool) → (b && not true) ≡ false
-      bare true = refl
-      bare false = refl
-
--- the domains of the homes stay where the nodes do
-pub domains-stay : (t : NodeLists) (list : List NodeState) (rows rows' : StripeNo → Option Row) (domains : List HomeDomains) → AreSameNodes t.list list → AreSameStripes rows rows'
-    → AreDomainsKept (states_in t).nodes (λ s. row_homes (rows s)) domains → AreDomainsKept (states_in (record t { list = list })).nodes (λ s. row_homes (rows' s)) domains
-unfolding states_in
-domains-stay t list rows rows' domains same stripes =
-    subst (λ (ns : List NodeInfo). AreDomainsKept (infos_in t.list) (λ s. row_homes (rows s)) domains → AreDomainsKept ns (λ s. row_homes (rows' s)) domains) (sym same.nodes)
-    (subst (λ (h : StripeNo → Homes). AreDomainsKept (infos_in t.list) h domains) (fun_ext (λ s. sym (stripes.homes s))))
+    kept-as (states_in t) (states_in (record t { list = with_upgrading_in t.list u b })) rows (same-upgrading t.list u b).nodes (up-upgrading t.list u b) (draining-upgrading t.list u b)
+    (on-stays t (with_upgrading_in t.list u b) (same-upgrading t.list u b)) kept

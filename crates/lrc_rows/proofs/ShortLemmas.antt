@@ -7,36 +7,34 @@ use Rattle.std.proofs.lemmas.List.{get_or_past, get_or-map}
 use Rattle.lrc_bits.specs.Flags.{FindsFrom}
 use Rattle.std.proofs.lemmas.List.Folds.{list_any_at}
 use Rattle.std.proofs.lemmas.List.Sums.{count_by_more_yes, count_by_more_no, sum_by-cons}
-use Rattle.lrc_code.specs.Losses.{bits_set}
 use Rattle.lrc_code.specs.declared.numbers.NodeNo.{NodeNo}
 use Rattle.lrc_code.specs.declared.numbers.StripeNo.{StripeNo}
 use Rattle.lrc_topology.specs.declared.NodeInfo.{NodeInfo}
 use Rattle.lrc_nodes.specs.States.{is_node_online, is_node_offline}
 use Rattle.lrc_rows.specs.declared.row.Row.{Row}
 use Rattle.lrc_nodes.specs.declared.node_state.NodeState.{NodeState}
+use Rattle.lrc_ranks.specs.declared.planes.Planes.{Planes}
 use Rattle.lrc_ranks.specs.Sets.{has, at_rank}
 use Rattle.lrc_rows.specs.NodeStates.{NodeStates, NodeLists, states_in, offline_in, is_on_several_offline}
 use Rattle.lrc_rows.specs.Listed.{rows_in}
-use Rattle.lrc_homes.specs.Masks.{work_rank, rank_of}
+use Rattle.lrc_terms.specs.Levels.{rank_by}
+use Rattle.lrc_homes.specs.Upgrading.{missing_with}
 use Rattle.lrc_ranks.specs.Ranks.{is_at}
 use Rattle.lrc_rows.specs.Kept.{AreQueued, row_has_work}
 use Rattle.lrc_homes.proofs.RankLemmas.{rank_by-few}
 use Rattle.lrc_nodes.proofs.StateLemmas.{no_state, online-own}
 use Rattle.lrc_rows.proofs.NodeStateLemmas.{not-not, or-false, offline-all}
-
--- one of the sets has what any has
-any-found : (p : List Bool → Bool) (sets : List (List Bool)) → list_any p sets ≡ true → (k : ℕ) × (p (get_or sets k []) ≡ true)
-any-found p [] hit = absurd (cc)
-any-found p (x ∷ sets) hit = elim (cases_Bool (p x)) [
-  | inl here ↦ (0, here)
-  | inr later ↦ let found = any-found p sets (rw later at hit) in (suc found.0, found.1)
-]
+use Rattle.lrc_rows.proofs.RowsLemmas.{rank_of_row}
 
 -- ---- the stripes that have work
 
-module _ (list : List (Option Row)) (needs : List ℕ) (there : List Bool) (work : List (List Bool)) (are : AreQueued list needs there work) (s : StripeNo) where
+module _ (list : List (Option Row)) (upgrading : List Bool) (needs : List ℕ) (there : List Bool) (work : List (List Bool)) (planes : Planes) (are : AreQueued list upgrading needs there work planes) (s : StripeNo) where
   abbrev ranked : ℕ → Option Row → Bool
-  ranked k o = is_at k (option_and_then (λ r. work_rank r.losses) o)
+  ranked k o = is_at k (option_and_then (rank_of_row upgrading) o)
+
+  -- the rank of a row with work
+  abbrev rank_by_row : Row → ℕ
+  rank_by_row r = rank_by r.losses.code (missing_with upgrading r.homes r.domains r.losses)
 
   at : (k : ℕ) → has (get_or work k []) s ≡ ranked k (rows_in list s)
   at k = ap (λ (q : ℕ → StripeNo → Bool). q k s) are.works
@@ -52,13 +50,7 @@ module _ (list : List (Option Row)) (needs : List ℕ) (there : List Bool) (work
   with_work-ranked None hit = absurd (cc)
   with_work-ranked (Some r) hit = elim (cases_Bool (nat_eq r.losses.needs.bits 0)) [
     | inl none ↦ absurd (let clash : false ≡ true = rw none at hit in cc)
-    | inr some ↦ (rank_of r.losses, rw some (eq-eqb (rank_of r.losses) (rank_of r.losses) refl))
-  ]
-
-  any-at : (k : ℕ) → has (get_or work k []) s ≡ true → list_any (λ m. has m s) work ≡ true
-  any-at k hit = elim (cases_lt k (length work)) [
-    | inl within ↦ list_any_at (λ m. has m s) work k [] within hit
-    | inr past ↦ absurd (let clash : false ≡ true = sym (ap (λ (m : List Bool). has m s) (get_or_past work k [] past)) ∙ hit in cc)
+    | inr some ↦ (rank_by_row r, rw some (eq-eqb (rank_by_row r) (rank_by_row r) refl))
   ]
 
   -- a stripe of a rank has work
@@ -78,26 +70,10 @@ module _ (list : List (Option Row)) (needs : List ℕ) (there : List Bool) (work
     few k (Some r) hit = elim (cases_Bool (nat_eq r.losses.needs.bits 0)) [
       | inl none ↦ absurd (let clash : false ≡ true = rw none at hit in cc)
       | inr some ↦
-          let same : rank_of r.losses ≡ k = eqb-true _ _ (rw some at hit) in
-          let most : rank_of r.losses ≤ 4 = rank_by-few r.losses.code (bits_set r.losses.missing.bits) in
+          let same : rank_by_row r ≡ k = eqb-true _ _ (rw some at hit) in
+          let most : rank_by_row r ≤ 4 = rank_by-few r.losses.code (missing_with upgrading r.homes r.domains r.losses) in
           omega (arith, same, most)
     ]
-
-  pub work-with_work : list_any (λ m. has m s) work ≡ row_has_work (rows_in list s)
-  work-with_work = elim (cases_Bool (row_has_work (rows_in list s))) [
-    | inl with_work ↦ let found = with_work-ranked (rows_in list s) with_work in any-at found.0 (at found.0 ∙ found.1) ∙ sym with_work
-    | inr none ↦ missed (list_any (λ m. has m s) work) refl none
-  ] where
-    missed : (b : Bool) → list_any (λ m. has m s) work ≡ b → row_has_work (rows_in list s) ≡ false → list_any (λ m. has m s) work ≡ row_has_work (rows_in list s)
-    missed false e none = e ∙ sym none
-    missed true e none =
-        let found = any-found (λ m. has m s) work e in
-        let with_work = ranked-with_work found.0 (rows_in list s) (sym (at found.0) ∙ found.1) in
-        absurd (let clash : true ≡ false = sym with_work ∙ none in cc)
-
-pub work-joined : (list : List (Option Row)) (needs : List ℕ) (there : List Bool) (work : List (List Bool)) (first now : List Bool) → AreQueued list needs there work
-    → has now ≡ (λ s. has first s || list_any (λ m. has m s) work) → has now ≡ λ s. has first s || row_has_work (rows_in list s)
-work-joined list needs there work first now are joined = joined ∙ fun_ext (λ s. ap (λ b. has first s || b) (work-with_work list needs there work are s))
 
 -- ---- nodes that are not online
 

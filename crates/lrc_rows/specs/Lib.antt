@@ -7,9 +7,11 @@ pub use Rattle.lrc_terms.specs.Stripes
 pub use Rattle.lrc_nodes.specs.States
 pub use Rattle.lrc_ranks.specs.Sets
 pub use Rattle.lrc_ranks.specs.Ranks
+pub use Rattle.lrc_ranks.specs.Missing
 pub use Rattle.lrc_homes.specs.Domains
 pub use Rattle.lrc_homes.specs.Homes
 pub use Rattle.lrc_homes.specs.Masks
+pub use Rattle.lrc_homes.specs.Upgrading
 pub mod NodeStates
 pub mod Kept
 pub mod Listed

@@ -1,10 +1,15 @@
--- The rows by stripe number, and the code and the homes that a row shows.
-use Rattle.std.specs.Prelude.{List, get_or, Option, Some, None}
+-- The rows of a store, and the code and the homes that a row shows.
+use Rattle.std.specs.Prelude.{Bool, List, get_or, Option, Some, None}
 use Rattle.lrc_code.specs.declared.numbers.StripeNo.{StripeNo}
 use Rattle.lrc_code.specs.declared.codes.Code.{Code}
 use Rattle.lrc_code.specs.declared.codes.Code.TheVariants.{Wide}
 use Rattle.lrc_rows.specs.declared.row.Row.{Row}
 use Rattle.lrc_terms.specs.Levels.{Homes}
+
+-- the rows by stripe number, and the set of the upgrade domains whose nodes are upgrading
+pub record RowTable : Type 0 where
+  pub list : List (Option Row)
+  pub upgrading : List Bool
 
 -- the row of a stripe
 abbrev pub rows_in : List (Option Row) → StripeNo → Option Row

@@ -1,17 +1,13 @@
 -- The stored nodes, and the stripes with a home on each.
 use Rattle.std.specs.Prelude.{◌≡◌, ◌≢◌, ℕ, ◌<◌, ◌≤◌, Bool, true, false, List, [], map, get_or, length, Option, Some, None, is_some, not, ◌&&◌, nat_lt, count_by}
-use Rattle.std.specs.List.{AllPairs, list_any}
+use Rattle.std.specs.List.{All, AllPairs, list_any}
 use Rattle.lrc_code.specs.declared.numbers.StripeNo.{StripeNo}
 use Rattle.lrc_code.specs.declared.numbers.NodeNo.{NodeNo}
 use Rattle.lrc_topology.specs.declared.NodeInfo.{NodeInfo}
 use Rattle.lrc_nodes.specs.declared.node_state.NodeState.{NodeState}
-use Rattle.lrc_nodes.specs.States.{first_state, infos_in, numbers_in, node_position, online_in, draining_in}
+use Rattle.lrc_nodes.specs.States.{first_state, infos_in, numbers_in, node_position, online_in, up_in, draining_in}
 use Rattle.lrc_ranks.specs.Sets.{has}
-use Rattle.lrc_topology.specs.declared.seat.Seat.{Seat}
 use Rattle.lrc_topology.specs.Nodes.{node_at}
-use Rattle.lrc_homes.specs.declared.losses.Losses.{Losses}
-use Rattle.lrc_homes.specs.Homes.{is_missing}
-use Rattle.lrc_homes.specs.Masks.{IsMaskOf}
 use Rattle.lrc_code.specs.declared.numbers.UpgradeNo.{UpgradeNo}
 use Rattle.lrc_code.specs.Numbers.{same_node, same_upgrade}
 use Rattle.std.specs.Option.{option_map_or}
@@ -20,30 +16,28 @@ use Rattle.std.specs.Option.{option_map_or}
 abbrev pub has_node : List NodeInfo → NodeNo → Bool
 has_node nodes n = is_some (node_at nodes n)
 
--- the node of this number is in the upgrade domain
+-- (internal) the node of this number is in the upgrade domain
 abbrev pub is_in_domain : List NodeInfo → UpgradeNo → NodeNo → Bool
 is_in_domain nodes u n = option_map_or (λ m. same_upgrade m.upgrade u) (node_at nodes n) false
 
--- (internal) the node of this number is one of these, and outside the upgrade domain
-abbrev pub is_outside : List NodeInfo → UpgradeNo → NodeNo → Bool
-is_outside nodes u n = option_map_or (λ m. not (same_upgrade m.upgrade u)) (node_at nodes n) false
+-- the set of upgrade domains has those whose nodes are upgrading
+pub record AreUpgrading (states : List NodeState) (upgrading : List Bool) : Type 0 where
+  pub long : length upgrading ≡ 256
+  pub each : All (λ x. x.is_upgrading ≡ get_or upgrading x.node.upgrade.value false) states
 
--- the nodes outside the domain are online as before
-abbrev pub AreAlikeOutside : List NodeInfo → UpgradeNo → (NodeNo → Bool) → (NodeNo → Bool) → Type 0
-AreAlikeOutside nodes u before after = (n : NodeNo) → is_in_domain nodes u n ≡ false → before n ≡ after n
-
--- The nodes in the order of the file with their states; the nodes alone, those that are online and those that are draining, which
--- follow from it; and the stripes with a home on each.
+-- The nodes in the order of the file with their states; the nodes alone, those that are online, those that are up and those that are
+-- draining, which follow from it; and the stripes with a home on each.
 pub record NodeStates : Type 0 where
   pub list : List NodeState
   pub nodes : List NodeInfo
   pub online : NodeNo → Bool
+  pub up : NodeNo → Bool
   pub draining : NodeNo → Bool
   pub on : NodeNo → StripeNo → Bool
 
 -- the nodes at first
 abbrev pub first_states : List NodeInfo → NodeStates
-first_states nodes = record { list = map first_state nodes; nodes = nodes; online = has_node nodes; draining = λ n. false; on = λ n s. false }
+first_states nodes = record { list = map first_state nodes; nodes = nodes; online = has_node nodes; up = has_node nodes; draining = λ n. false; on = λ n s. false }
 
 -- the stored nodes, and in the same order the stripes with a home on each
 pub record NodeLists : Type 0 where
@@ -56,6 +50,7 @@ states_in t = record {
   list = t.list;
   nodes = infos_in t.list;
   online = online_in t.list;
+  up = up_in t.list;
   draining = draining_in t.list;
   on = λ n. has (get_or t.stripes (node_position t.list n) []);
 }
@@ -86,12 +81,3 @@ is_on_many_offline states s = nat_lt 2 (offline_in states s states.nodes)
 pub record AreOffline (states : NodeStates) (numbers : List NodeNo) : Type 0 where
   pub offline : (n : NodeNo) → list_any (same_node n) numbers ≡ true → states.online n ≡ false
   pub all : (n : NodeNo) (s : StripeNo) → states.online n ≡ false → states.on n s ≡ true → list_any (same_node n) numbers ≡ true
-
--- (internal) The losses of a row with these homes, whose mask of the missing fragments is exact now, if it was so before the nodes of a
--- domain came online or went offline.
-pub record AreFollowing (states : NodeStates) (u : UpgradeNo) (homes : List (Option Seat)) (before after : Losses) : Type 0 where
-  pub code : after.code ≡ before.code
-  pub homeless : after.homeless ≡ before.homeless
-  pub missing : (online : NodeNo → Bool) → AreAlikeOutside states.nodes u online states.online → IsMaskOf before.code (is_missing online) homes before.missing
-      → IsMaskOf before.code (is_missing states.online) homes after.missing
-  pub needs : after.needs ≡ before.needs

@@ -10,7 +10,7 @@ ghost use Rattle.lrc_topology.specs.Nodes.{node_at};
 ghost use Rattle.lrc_terms.specs.Levels.{Homes as AnyHomes};
 ghost use Rattle.lrc_homes.specs.Domains.{AreDomainsOf};
 ghost use Rattle.lrc_rows.specs.NodeStates.{has_node, states_in, first_states, IsPositionOf};
-ghost use Rattle.lrc_nodes.specs.States.{state_at, down_in, with_state, with_upgrading_in};
+ghost use Rattle.lrc_nodes.specs.States.{state_at, down_in, up_in, with_state, with_upgrading_in};
 ghost use Rattle.lrc_ranks.specs.Sets.{FindsNext, has};
 ghost use Rattle.lrc_homes.specs.Homes.{seated_homes, sits_on};
 ghost use Rattle.lrc_rows.specs.Listed.{rows_in};
@@ -89,6 +89,21 @@ impl NodeTable {
         self.nodes.is_online(number)
     }
 
+    /// Whether the node with a number is up, so neither gone nor down; `false` if there is none.
+    pub fn is_up(&self, number: NodeNo) -> bool
+        ensures { result ≡ (states_in self.now).up number }
+    {
+        self.nodes.is_up(number)
+    }
+
+    /// A flag for each node number: whether there is a node with the number and it is up.
+    pub(crate) fn up(&self) -> &[bool]
+        ensures long { length result.now ≡ 65536 }
+        ensures each { (n : AnyNode) → get_or result.now n.value false ≡ (states_in self.now).up n }
+    {
+        self.nodes.up()
+    }
+
     /// Whether the node with a number is draining; `false` if there is none.
     pub fn is_draining(&self, number: NodeNo) -> bool
         ensures { result ≡ (states_in self.now).draining number }
@@ -138,7 +153,7 @@ impl NodeTable {
         requires nodes { All (λ seat. IsTrue (has_node (states_in self.old).nodes seat.node)) seats.now }
         ensures on { states_in self.new ≡ record (states_in self.old) { on = λ n s. (same_stripe stripe s && list_any (sits_on n) (seated_homes seats.now)) || (states_in self.old).on n s } }
         ensures code { result.code ≡ code }
-        ensures losses { AreLosses code (states_in self.old).online (states_in self.old).draining (seated_homes seats.now) result }
+        ensures losses { AreLosses code (states_in self.old).up (states_in self.old).draining (seated_homes seats.now) result }
         ensures domains { AreDomainsOf (states_in self.old).nodes (λ f. get_or (seated_homes seats.now) f None) domains.new }
     {
         for number in 0..code.fragments() {
@@ -154,7 +169,7 @@ impl NodeTable {
         requires length { length seats.now ≡ fragment_count code }
         requires nodes { All (λ seat. IsTrue (has_node (states_in self.now).nodes seat.node)) seats.now }
         ensures code { result.code ≡ code }
-        ensures losses { AreLosses code (states_in self.now).online (states_in self.now).draining (seated_homes seats.now) result }
+        ensures losses { AreLosses code (states_in self.now).up (states_in self.now).draining (seated_homes seats.now) result }
     {
         if self.are_plain() {
             return Losses::none(code);
@@ -164,7 +179,7 @@ impl NodeTable {
 
     /// Whether no node is offline or draining.
     fn are_plain(&self) -> bool
-        ensures { result ≡ true → (n : AnyNode) → IsTrue (has_node (states_in self.now).nodes n) → ((states_in self.now).online n ≡ true) × ((states_in self.now).draining n ≡ false) }
+        ensures { result ≡ true → (n : AnyNode) → IsTrue (has_node (states_in self.now).nodes n) → ((states_in self.now).up n ≡ true) × ((states_in self.now).draining n ≡ false) }
     {
         self.nodes.are_all_online() && self.nodes.are_none_draining()
     }
@@ -174,13 +189,13 @@ impl NodeTable {
     fn losses_on(&self, code: Code, seats: &[Seat]) -> Losses
         requires { length seats.now ≡ fragment_count code }
         ensures code { result.code ≡ code }
-        ensures losses { AreLosses code (states_in self.now).online (states_in self.now).draining (seated_homes seats.now) result }
+        ensures losses { AreLosses code (states_in self.now).up (states_in self.now).draining (seated_homes seats.now) result }
     {
         let mut losses = Losses::none(code);
         for number in 0..code.fragments() {
             let fragment = Fragment { value: number };
             let node = seats[number as usize].node;
-            losses.missing = masks::with_where(losses.missing, fragment, !self.is_online(node));
+            losses.missing = masks::with_where(losses.missing, fragment, !self.is_up(node));
             losses.needs = masks::with_where(losses.needs, fragment, self.is_draining(node));
         }
         losses
@@ -231,8 +246,8 @@ impl NodeTable {
 
     /// Removes an existing stripe from the node of a former home, unless its row has another home there.
     pub fn unseat(&mut self, stripe: StripeNo, former: Option<Seat>, rows: &Rows)
-        requires { IsTrue (is_some (rows_in rows.now stripe)) }
-        ensures { states_in self.new ≡ record (states_in self.old) { on = λ n s. not (same_stripe stripe s && (sits_on n former && not (is_row_on n (rows_in rows.now stripe)))) && (states_in self.old).on n s } }
+        requires { IsTrue (is_some (rows_in rows.now.list stripe)) }
+        ensures { states_in self.new ≡ record (states_in self.old) { on = λ n s. not (same_stripe stripe s && (sits_on n former && not (is_row_on n (rows_in rows.now.list stripe)))) && (states_in self.old).on n s } }
     {
         if let Some(seat) = former {
             if !rows.is_on(stripe, seat.node) {
@@ -259,10 +274,10 @@ impl NodeTable {
         match home {
             Some(seat) => {
                 let position = self.position_of(seat.node);
-                let is_offline = self.nodes.is_offline_at(position);
+                let is_up = self.nodes.is_up_at(position);
                 let is_draining = self.nodes.is_draining_at(position);
                 self.enter_one(stripe, fragment, seat.node, domains);
-                losses.put(fragment, false, is_offline, is_draining)
+                losses.put(fragment, false, !is_up, is_draining)
             }
             None => losses.put(fragment, true, true, true),
         }

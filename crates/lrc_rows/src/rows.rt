@@ -5,10 +5,12 @@ ghost use Rattle.lrc_code.specs.declared.numbers.StripeNo.{StripeNo as AnyStripe
 ghost use Rattle.lrc_rows.specs.declared.row.Row.{Row as AnyRow};
 ghost use Rattle.lrc_code.specs.declared.fault.Fault.TheVariants.{OutOfMemory};
 ghost use Rattle.lrc_ranks.specs.Ranks.{is_at, queue_from};
-ghost use Rattle.lrc_homes.specs.Masks.{work_rank, risk_rank};
-ghost use Rattle.lrc_ranks.specs.Sets.{has};
-ghost use Rattle.lrc_rows.specs.Kept.{row_has_work, IsKept, queued, needs_of, freshened, level_in, is_row_on, holds, AreRenewed, IsRenewed, IsWithLosses, IsWithMissing, IsRehomed, IsMissingOn, IsToMoveOn};
-ghost use Rattle.lrc_rows.specs.NodeStates.{states_in};
+ghost use Rattle.lrc_homes.specs.Masks.{risk_rank};
+ghost use Rattle.lrc_homes.specs.Upgrading.{work_rank_with};
+ghost use Rattle.lrc_ranks.specs.Sets.{has, at_fragment};
+ghost use Rattle.lrc_code.specs.declared.codes.Code.TheVariants.{Wide, Narrow};
+ghost use Rattle.lrc_rows.specs.Kept.{row_has_work, IsKept, queued, ranked, needs_of, is_planed, freshened, level_in, is_row_on, holds, AreRenewed, IsRenewed, IsWithLosses, IsWithMissing, IsRehomed, IsMissingOn, IsToMoveOn};
+ghost use Rattle.lrc_rows.specs.NodeStates.{states_in, AreUpgrading};
 ghost use Rattle.lrc_homes.specs.Homes.{sits_on};
 ghost use Rattle.lrc_code.specs.Losses.{bits_set};
 ghost use Rattle.lrc_rows.specs.Listed.{rows_in};
@@ -17,9 +19,10 @@ mod following;
 
 use crate::node_table::NodeTable;
 use crate::row::Row;
-use lrc_code::{Fault, Fragment, LossMask, NodeNo, STRIPES, StripeNo};
-use lrc_homes::{Losses, masks};
-use lrc_ranks::{Position, Queue, StripeSet, Work};
+use crate::upgrading_domains::UpgradingDomains;
+use lrc_code::{Code, Fault, Fragment, LossMask, NodeNo, STRIPES, StripeNo};
+use lrc_homes::{HomeDomains, Losses, masks};
+use lrc_ranks::{Planes, Position, Queue, StripeSet, Work};
 use lrc_terms::Level;
 use lrc_topology::Seat;
 use std::alloc::{AllocError, Global};
@@ -36,51 +39,64 @@ pub struct Rows {
     /// The stripes that exist. A copy, so that a test reads no row.
     there: StripeSet,
     work: Queue,
+    /// The stripes that have work, and their missing fragments by the masks of their rows.
+    planes: Planes,
+    /// The upgrade domains whose nodes are upgrading.
+    upgrading: UpgradingDomains,
 }
 
 impl Model for Rows {
-    ghost use Rattle.std.specs.Prelude.{List, Option};
-    ghost use Rattle.lrc_rows.specs.declared.row.Row.{Row as AnyRow};
+    ghost use Rattle.lrc_rows.specs.Listed.{RowTable};
     ghost use Rattle.lrc_rows.specs.Kept.{AreQueued};
 
-    ghost Value = { List (Option AnyRow) };
+    ghost Value = { RowTable };
 
-    ghost view = { λ t. t.list.items };
+    ghost view = { λ t. record { list = t.list.items; upgrading = t.upgrading } };
 
-    ghost invariant = { λ t. AreQueued t.list.items t.needs.items t.there t.work };
+    ghost invariant = { λ t. AreQueued t.list.items t.upgrading t.needs.items t.there t.work t.planes };
 }
 
 impl Rows {
-    /// No rows, and room for a row of each stripe number.
+    /// No rows, and room for a row of each stripe number. No upgrade domain is upgrading.
     pub fn new(alloc: Global) -> Result<Rows, Fault>
-        ensures value { IfOk result (λ t. rows_in t ≡ λ s. None) }
+        ensures value { IfOk result (λ t. rows_in t.list ≡ λ s. None) }
+        ensures upgrading { IfOk result (λ t. t.upgrading ≡ replicate 256 false) }
         ensures err { IfErr result (λ e. e ≡ OutOfMemory) }
     {
         Ok(Rows {
             list: none(alloc, STRIPES)?,
             needs: zeros(alloc, STRIPES)?,
             there: StripeSet::new(),
-            work: Queue::new(alloc)?,
+            work: Queue::new(),
+            planes: Planes::new(),
+            upgrading: UpgradingDomains::new(),
         })
+    }
+
+    /// The upgrade domains whose nodes are upgrading.
+    pub fn upgrading(&self) -> &UpgradingDomains
+        ensures { result.now ≡ self.now.upgrading }
+    {
+        &self.upgrading
     }
 
     /// Whether a stripe exists.
     pub fn contains(&self, stripe: StripeNo) -> bool
-        ensures { result ≡ is_some (rows_in self.now stripe) }
+        ensures { result ≡ is_some (rows_in self.now.list stripe) }
     {
         self.there.contains(stripe)
     }
 
     /// The row of a stripe, if it exists.
     pub fn get(&self, stripe: StripeNo) -> Option<&Row>
-        ensures { option_copied result ≡ rows_in self.now stripe }
+        ensures { option_copied result ≡ rows_in self.now.list stripe }
     {
         self.list[stripe.value as usize].as_ref()
     }
 
     /// The fragments of a stripe that need a lease; none for a stripe that does not exist.
     pub fn needs(&self, stripe: StripeNo) -> LossMask
-        ensures value { result.bits ≡ needs_of (rows_in self.now stripe) }
+        ensures value { result.bits ≡ needs_of (rows_in self.now.list stripe) }
         ensures few { result.bits < 65536 }
     {
         LossMask::from_bits(self.needs[stripe.value as usize])
@@ -89,7 +105,7 @@ impl Rows {
     /// The fragments of an existing stripe that have a home.
     pub fn homed(&self, stripe: StripeNo) -> LossMask
         ensures few { result.bits < 65536 }
-        ensures homed { (r : AnyRow) → rows_in self.now stripe ≡ Some r → (f : ℕ) → bits_set result.bits f ≡ is_some (get_or r.homes f None) }
+        ensures homed { (r : AnyRow) → rows_in self.now.list stripe ≡ Some r → (f : ℕ) → bits_set result.bits f ≡ is_some (get_or r.homes f None) }
     {
         match self.get(stripe) {
             Some(row) => row.homes.homed(),
@@ -100,10 +116,15 @@ impl Rows {
     /// Adds or replaces the row of a stripe.
     #[inline(always)] // so that the row of a new stripe is made where it is stored
     pub fn add(&mut self, stripe: StripeNo, row: Row)
-        ensures { rows_in self.new ≡ λ s. if same_stripe stripe s then Some row else rows_in self.old s }
+        ensures rows { rows_in self.new.list ≡ λ s. if same_stripe stripe s then Some row else rows_in self.old.list s }
+        ensures upgrading { self.new.upgrading ≡ self.old.upgrading }
     {
-        let rank = row.losses.work_rank();
-        self.needs[stripe.value as usize] = row.losses.needs.bits;
+        let rank = row.work_rank(&self.upgrading);
+        let needs = row.losses.needs.bits;
+        let before = planed(self.list[stripe.value as usize].as_ref());
+        self.planes.narrow.set(stripe, is_narrow(row.losses.code));
+        set_planes(&mut self.planes, stripe, before, row.planed(), needs != 0);
+        self.needs[stripe.value as usize] = needs;
         self.there.set(stripe, true);
         self.list[stripe.value as usize] = Some(row);
         self.work.relist(stripe, rank);
@@ -111,47 +132,70 @@ impl Rows {
 
     /// Removes the row of a stripe.
     pub fn remove(&mut self, stripe: StripeNo)
-        ensures { rows_in self.new ≡ λ s. if same_stripe stripe s then None else rows_in self.old s }
+        ensures rows { rows_in self.new.list ≡ λ s. if same_stripe stripe s then None else rows_in self.old.list s }
+        ensures upgrading { self.new.upgrading ≡ self.old.upgrading }
     {
+        let before = planed(self.list[stripe.value as usize].as_ref());
+        set_planes(
+            &mut self.planes,
+            stripe,
+            before,
+            LossMask::from_bits(0),
+            false,
+        );
         self.needs[stripe.value as usize] = 0;
         self.there.set(stripe, false);
         self.list[stripe.value as usize] = None;
         self.work.relist(stripe, None);
     }
 
-    /// Sets the losses of a stripe, if it exists.
+    /// Sets the losses of a stripe, if it exists. The code stays.
     fn set_losses(&mut self, stripe: StripeNo, losses: Losses)
-        ensures { AreRenewed (same_stripe stripe) (IsWithLosses losses) (rows_in self.old) (rows_in self.new) }
+        requires { (r : AnyRow) → rows_in self.old.list stripe ≡ Some r → losses.code ≡ r.losses.code }
+        ensures rows { AreRenewed (same_stripe stripe) (IsWithLosses losses) (rows_in self.old.list) (rows_in self.new.list) }
+        ensures upgrading { self.new.upgrading ≡ self.old.upgrading }
     {
         let row = &mut self.list[stripe.value as usize];
+        let before = planed(row.as_ref());
         put_losses(row, losses);
-        self.needs[stripe.value as usize] = needs_of(row.as_ref());
-        let rank = work_rank(row.as_ref());
+        let needs = needs_of(row.as_ref());
+        let after = planed(row.as_ref());
+        set_planes(&mut self.planes, stripe, before, after, needs != 0);
+        self.needs[stripe.value as usize] = needs;
+        let rank = work_rank(row.as_ref(), &self.upgrading);
         self.work.relist(stripe, rank);
     }
 
-    /// Sets the home of a fragment of an existing stripe, or clears it, and sets the losses of the stripe.
+    /// Sets the home of a fragment of an existing stripe, or clears it, and sets the domains and the losses of the stripe. The
+    /// code stays.
     pub fn set_home(
         &mut self,
         stripe: StripeNo,
         fragment: Fragment,
         home: Option<Seat>,
+        domains: HomeDomains,
         losses: Losses,
     )
-        requires { IsTrue (is_some (rows_in self.old stripe)) }
-        ensures { AreRenewed (same_stripe stripe) (IsRehomed fragment.value home losses) (rows_in self.old) (rows_in self.new) }
+        requires there { IsTrue (is_some (rows_in self.old.list stripe)) }
+        requires code { (r : AnyRow) → rows_in self.old.list stripe ≡ Some r → losses.code ≡ r.losses.code }
+        ensures rows { AreRenewed (same_stripe stripe) (IsRehomed fragment.value home domains losses) (rows_in self.old.list) (rows_in self.new.list) }
+        ensures upgrading { self.new.upgrading ≡ self.old.upgrading }
     {
         let row = &mut self.list[stripe.value as usize];
-        put_home(row, fragment, home, losses);
-        self.needs[stripe.value as usize] = losses.needs.bits;
-        let rank = losses.work_rank();
+        let before = planed(row.as_ref());
+        put_home(row, fragment, home, domains, losses);
+        let needs = losses.needs.bits;
+        let after = planed(row.as_ref());
+        set_planes(&mut self.planes, stripe, before, after, needs != 0);
+        self.needs[stripe.value as usize] = needs;
+        let rank = work_rank(row.as_ref(), &self.upgrading);
         self.work.relist(stripe, rank);
     }
 
     /// The fragments of an existing stripe whose homes are on the node.
     pub fn fragments_on(&self, stripe: StripeNo, node: NodeNo) -> LossMask
         ensures few { result.bits < 65536 }
-        ensures on { (r : AnyRow) → rows_in self.now stripe ≡ Some r → (f : ℕ) → bits_set result.bits f ≡ (nat_lt f 16 && sits_on node (get_or r.homes f None)) }
+        ensures on { (r : AnyRow) → rows_in self.now.list stripe ≡ Some r → (f : ℕ) → bits_set result.bits f ≡ (nat_lt f 16 && sits_on node (get_or r.homes f None)) }
     {
         match self.get(stripe) {
             Some(row) => row.homes.fragments_on(node),
@@ -161,15 +205,15 @@ impl Rows {
 
     /// Whether a fragment of an existing stripe has its home on the node.
     pub(crate) fn is_on(&self, stripe: StripeNo, node: NodeNo) -> bool
-        requires { IsTrue (is_some (rows_in self.now stripe)) }
-        ensures { result ≡ is_row_on node (rows_in self.now stripe) }
+        requires { IsTrue (is_some (rows_in self.now.list stripe)) }
+        ensures { result ≡ is_row_on node (rows_in self.now.list stripe) }
     {
         self.fragments_on(stripe, node).bits != 0
     }
 
     /// Whether a fragment of the stripe has its home on the seat.
     pub fn holds(&self, stripe: StripeNo, seat: Seat) -> bool
-        ensures { result ≡ holds seat (rows_in self.now stripe) }
+        ensures { result ≡ holds seat (rows_in self.now.list stripe) }
     {
         match self.get(stripe) {
             Some(row) => row.holds(seat),
@@ -185,8 +229,9 @@ impl Rows {
         node: NodeNo,
         are_missing: bool,
     )
-        requires { (s : AnyStripe) → has work.now s ≡ false → row_has_work (rows_in self.old s) ≡ false }
-        ensures { AreRenewed ((states_in node_table.now).on node) (IsMissingOn node are_missing) (rows_in self.old) (rows_in self.new) }
+        requires { (s : AnyStripe) → has work.now s ≡ false → row_has_work (rows_in self.old.list s) ≡ false }
+        ensures rows { AreRenewed ((states_in node_table.now).on node) (IsMissingOn node are_missing) (rows_in self.old.list) (rows_in self.new.list) }
+        ensures upgrading { self.new.upgrading ≡ self.old.upgrading }
     {
         if let Some(stripes) = node_table.stripes_on(node) {
             let mut common = StripeSet::new();
@@ -197,7 +242,8 @@ impl Rows {
 
     /// Does the same for a set of stripes, with or without work and a home on the node.
     fn renew_missing_in(&mut self, stripes: &StripeSet, node: NodeNo, are_missing: bool)
-        ensures { AreRenewed (has stripes.now) (IsMissingOn node are_missing) (rows_in self.old) (rows_in self.new) }
+        ensures rows { AreRenewed (has stripes.now) (IsMissingOn node are_missing) (rows_in self.old.list) (rows_in self.new.list) }
+        ensures upgrading { self.new.upgrading ≡ self.old.upgrading }
     {
         let mut left = stripes.members();
         while let Some(stripe) = left.next_stripe() {
@@ -207,7 +253,8 @@ impl Rows {
 
     /// Sets whether the fragments of a stripe on the node are missing, if the stripe exists.
     fn renew_missing_of(&mut self, stripe: StripeNo, node: NodeNo, are_missing: bool)
-        ensures { AreRenewed (same_stripe stripe) (IsMissingOn node are_missing) (rows_in self.old) (rows_in self.new) }
+        ensures rows { AreRenewed (same_stripe stripe) (IsMissingOn node are_missing) (rows_in self.old.list) (rows_in self.new.list) }
+        ensures upgrading { self.new.upgrading ≡ self.old.upgrading }
     {
         let fragments = self.fragments_on(stripe, node);
         self.put_missing(stripe, fragments, are_missing);
@@ -215,18 +262,24 @@ impl Rows {
 
     /// Sets whether these fragments of a stripe are missing, if the stripe exists.
     fn put_missing(&mut self, stripe: StripeNo, fragments: LossMask, are_missing: bool)
-        ensures { AreRenewed (same_stripe stripe) (IsWithMissing fragments are_missing) (rows_in self.old) (rows_in self.new) }
+        ensures rows { AreRenewed (same_stripe stripe) (IsWithMissing fragments are_missing) (rows_in self.old.list) (rows_in self.new.list) }
+        ensures upgrading { self.new.upgrading ≡ self.old.upgrading }
     {
         let row = &mut self.list[stripe.value as usize];
+        let before = planed(row.as_ref());
         put_missing(row, fragments, are_missing);
-        let rank = work_rank(row.as_ref());
+        let needs = needs_of(row.as_ref());
+        let after = planed(row.as_ref());
+        set_planes(&mut self.planes, stripe, before, after, needs != 0);
+        let rank = work_rank(row.as_ref(), &self.upgrading);
         self.work.relist(stripe, rank);
     }
 
     /// Sets whether the fragments on the node need a lease. The masks of the rows must be kept.
     fn renew_needs(&mut self, node_table: &NodeTable, node: NodeNo, are_to_move: bool)
-        requires { IsKept (states_in node_table.now) (rows_in self.old) }
-        ensures { AreRenewed ((states_in node_table.now).on node) (IsToMoveOn (states_in node_table.now).online node are_to_move) (rows_in self.old) (rows_in self.new) }
+        requires { IsKept (states_in node_table.now) (rows_in self.old.list) }
+        ensures rows { AreRenewed ((states_in node_table.now).on node) (IsToMoveOn (states_in node_table.now).up node are_to_move) (rows_in self.old.list) (rows_in self.new.list) }
+        ensures upgrading { self.new.upgrading ≡ self.old.upgrading }
     {
         if let Some(stripes) = node_table.stripes_on(node) {
             self.renew_needs_in(stripes, node_table, node, are_to_move);
@@ -241,8 +294,9 @@ impl Rows {
         node: NodeNo,
         are_to_move: bool,
     )
-        requires { IsKept (states_in node_table.now) (rows_in self.old) }
-        ensures { AreRenewed (has stripes.now) (IsToMoveOn (states_in node_table.now).online node are_to_move) (rows_in self.old) (rows_in self.new) }
+        requires { IsKept (states_in node_table.now) (rows_in self.old.list) }
+        ensures rows { AreRenewed (has stripes.now) (IsToMoveOn (states_in node_table.now).up node are_to_move) (rows_in self.old.list) (rows_in self.new.list) }
+        ensures upgrading { self.new.upgrading ≡ self.old.upgrading }
     {
         let mut left = stripes.members();
         while let Some(stripe) = left.next_stripe() {
@@ -255,39 +309,42 @@ impl Rows {
     }
 
     /// The level of a stripe; `Whole` for a stripe that does not exist. The masks of the rows must
-    /// be kept.
+    /// be kept, and the upgrading domains be those of the nodes.
     pub fn level(&self, node_table: &NodeTable, stripe: StripeNo) -> Level
-        requires { IsKept (states_in node_table.now) (rows_in self.now) }
-        ensures { result ≡ level_in (rows_in (freshened (states_in node_table.now).online self.now) stripe) }
+        requires kept { IsKept (states_in node_table.now) (rows_in self.now.list) }
+        requires upgrading { AreUpgrading node_table.now.list self.now.upgrading }
+        ensures { result ≡ level_in (rows_in (freshened (states_in node_table.now).online self.now.list) stripe) }
     {
         match self.get(stripe) {
-            Some(row) => row.losses_kept(node_table, stripe).level(),
+            Some(row) => row.losses_kept(node_table, &self.upgrading, stripe).level(),
             None => Level::Whole,
         }
     }
 
     /// The rank of a stripe with a missing fragment; `None` for any other. The masks of the rows
-    /// must be kept.
+    /// must be kept, and the upgrading domains be those of the nodes.
     pub fn risk_rank(&self, node_table: &NodeTable, stripe: StripeNo) -> Option<u8>
-        requires { IsKept (states_in node_table.now) (rows_in self.now) }
-        ensures rank { (k : ℕ) → queued risk_rank (rows_in (freshened (states_in node_table.now).online self.now)) k stripe ≡ is_at k result }
+        requires kept { IsKept (states_in node_table.now) (rows_in self.now.list) }
+        requires upgrading { AreUpgrading node_table.now.list self.now.upgrading }
+        ensures rank { (k : ℕ) → queued risk_rank (rows_in (freshened (states_in node_table.now).online self.now.list)) k stripe ≡ is_at k result }
         ensures few { IfSome result (λ k. k ≤ 4) }
     {
         let row = self.get(stripe)?;
-        row.losses_kept(node_table, stripe).risk_rank()
+        row.losses_kept(node_table, &self.upgrading, stripe)
+            .risk_rank()
     }
 
     /// Whether a stripe has work.
     pub fn has_work(&self) -> bool
-        ensures none { result ≡ false → (s : AnyStripe) → row_has_work (rows_in self.now s) ≡ false }
-        ensures some { result ≡ true → (s : AnyStripe) × (row_has_work (rows_in self.now s) ≡ true) }
+        ensures none { result ≡ false → (s : AnyStripe) → row_has_work (rows_in self.now.list s) ≡ false }
+        ensures some { result ≡ true → (s : AnyStripe) × (row_has_work (rows_in self.now.list s) ≡ true) }
     {
         !self.work.is_empty()
     }
 
     /// The set of the stripes that have work.
     fn work_set(&self) -> StripeSet
-        ensures { has result ≡ λ s. row_has_work (rows_in self.now s) }
+        ensures { has result ≡ λ s. row_has_work (rows_in self.now.list s) }
     {
         let mut set = StripeSet::new();
         self.join_work(&mut set);
@@ -296,23 +353,21 @@ impl Rows {
 
     /// Adds the stripes that have work to a set.
     pub fn join_work(&self, set: &mut StripeSet)
-        ensures { has set.new ≡ λ s. has set.old s || row_has_work (rows_in self.now s) }
+        ensures { has set.new ≡ λ s. has set.old s || row_has_work (rows_in self.now.list s) }
     {
-        if self.has_work() {
-            self.work.join(set);
-        }
+        set.insert_all(&self.planes.work);
     }
 
     /// The stripes that have work, in the order of repair.
     pub fn work(&self) -> Work<'_>
-        ensures { result ≡ queue_from (queued work_rank (rows_in self.now)) 0 0 }
+        ensures { result ≡ queue_from (ranked self.now.upgrading (rows_in self.now.list)) 0 0 }
     {
         self.work.walk(Position { rank: 0, from: 0 })
     }
 
     /// The stripes that have work from this one on, which has work itself, in the order of repair.
     pub fn work_from(&self, first: StripeNo) -> Work<'_>
-        ensures { (k : ℕ) → IsTrue (queued work_rank (rows_in self.now) k first) → result ≡ queue_from (queued work_rank (rows_in self.now)) k first.value }
+        ensures { (k : ℕ) → IsTrue (ranked self.now.upgrading (rows_in self.now.list) k first) → result ≡ queue_from (ranked self.now.upgrading (rows_in self.now.list)) k first.value }
     {
         match self.work.rank(first) {
             Some(rank) => self.work.walk(Position {
@@ -360,12 +415,19 @@ fn put_losses(row: &mut Option<Row>, losses: Losses)
     }
 }
 
-/// Sets or clears the home of a fragment and sets the losses, if there is a row.
-fn put_home(row: &mut Option<Row>, fragment: Fragment, home: Option<Seat>, losses: Losses)
-    ensures { IsRenewed (IsRehomed fragment.value home losses) row.old row.new }
+/// Sets or clears the home of a fragment, and sets the domains and the losses, if there is a row.
+fn put_home(
+    row: &mut Option<Row>,
+    fragment: Fragment,
+    home: Option<Seat>,
+    domains: HomeDomains,
+    losses: Losses,
+)
+    ensures { IsRenewed (IsRehomed fragment.value home domains losses) row.old row.new }
 {
     if let Some(row) = row {
         row.homes.put(fragment, home);
+        row.domains = domains;
         row.losses = losses;
     }
 }
@@ -381,9 +443,51 @@ fn needs_of(row: Option<&Row>) -> u16
 }
 
 /// The rank of the row; `None` without a row or without work.
-fn work_rank(row: Option<&Row>) -> Option<u8>
-    ensures value { result ≡ option_and_then (λ r. work_rank r.losses) (option_copied row.entry) }
+fn work_rank(row: Option<&Row>, upgrading: &UpgradingDomains) -> Option<u8>
+    ensures value { result ≡ option_and_then (λ r. work_rank_with upgrading.now r.homes r.domains r.losses) (option_copied row.entry) }
     ensures few { IfSome result (λ k. k ≤ 4) }
 {
-    row?.losses.work_rank()
+    row?.work_rank(upgrading)
+}
+
+/// The fragments that the planes have of a row: those of the mask of the missing ones, if it has work.
+fn planed(row: Option<&Row>) -> LossMask
+    ensures { (f : ℕ) → bits_set result.bits f ≡ is_planed f (option_copied row.entry) }
+{
+    match row {
+        Some(row) => row.planed(),
+        None => LossMask::from_bits(0),
+    }
+}
+
+/// Sets what the planes have of a stripe. Before, they had these fragments of it.
+fn set_planes(
+    planes: &mut Planes,
+    stripe: StripeNo,
+    before: LossMask,
+    after: LossMask,
+    has_work: bool,
+)
+    requires { (f : ℕ) → f < 16 → at_fragment planes.old.missing f stripe ≡ bits_set before.bits f }
+    ensures missing { (f : ℕ) (s : AnyStripe) → f < 16 → at_fragment planes.new.missing f s ≡ (if same_stripe stripe s then bits_set after.bits f else at_fragment planes.old.missing f s) }
+    ensures work { has planes.new.work ≡ λ s. if same_stripe stripe s then has_work else has planes.old.work s }
+    ensures narrow { planes.new.narrow ≡ planes.old.narrow }
+{
+    planes
+        .missing
+        .put(stripe, masks::put(after, before, false), true);
+    planes
+        .missing
+        .put(stripe, masks::put(before, after, false), false);
+    planes.work.set(stripe, has_work);
+}
+
+/// Whether the code is `Narrow`.
+fn is_narrow(code: Code) -> bool
+    ensures { (if result then Narrow else Wide) ≡ code }
+{
+    match code {
+        Code::Wide => false,
+        Code::Narrow => true,
+    }
 }

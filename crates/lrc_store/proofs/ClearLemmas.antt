@@ -31,7 +31,7 @@ use Rattle.lrc_store.specs.Stores.{IsOf}
 use Rattle.lrc_store.specs.declared.store.Store.{Store}
 use Rattle.lrc_slots.specs.Tables.{slots_of}
 use Rattle.lrc_stripes.specs.Tables.{stored_in}
-use Rattle.lrc_store.proofs.StoredLemmas.{stored-clear, own-spare}
+use Rattle.lrc_store.proofs.StoredLemmas.{stored-clear}
 use Rattle.lrc_bars.proofs.SlotTableLemmas.{table-less}
 use Rattle.lrc_rules.proofs.LookUpLemmas.{is_of, found-home, home-only, home-own}
 use Rattle.lrc_stripes.specs.Stored as stored
@@ -185,8 +185,7 @@ module _ (st : State) (k : Store) (kept : IsOf st k) (s : StripeNo) (f : Fragmen
         known = kept.known;
         seated = homes-seated nodes st (λ g. not (is_of s f.value g)) kept.seated;
         table_is = free-kept seat is table freed;
-        stripes_is = own-spare nodes (without_home st s f) (stored_in stripes) (stored_in k.stripes).spare
-            (cleared ∙ ap (λ (t : Stored). stored.with_home t s f None) kept.stripes_is ∙ stored-clear nodes st (stored_in k.stripes).spare s f);
+        stripes_is = cleared ∙ ap (λ (t : Stored). stored.with_home t s f None) kept.stripes_is ∙ stored-clear nodes st s f;
         leases_is = kept.leases_is;
         apart = kept.apart;
         upgrading_is = kept.upgrading_is;

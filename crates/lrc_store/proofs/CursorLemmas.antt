@@ -122,29 +122,29 @@ module _ (nodes : List NodeInfo) (st : State) (l : LeaseRecord) where
 
 -- ---- the stripes that may have a grantable fragment
 
-module _ (nodes : List NodeInfo) (st : State) (spare : ℕ) where
-  pub past-works : (s : StripeNo) → IsPast nodes st s → has_work (stored_of nodes st spare) s ≡ true
+module _ (nodes : List NodeInfo) (st : State) where
+  pub past-works : (s : StripeNo) → IsPast nodes st s → has_work (stored_of nodes st) s ≡ true
   past-works s past =
-      has-work nodes st spare s (stripe-there st s past.there)
+      has-work nodes st s (stripe-there st s past.there)
       (list_any-member (needs nodes st s) (fragments (code_of st s)) past.fragment
       (code-fragments (code_of st s) past.fragment (needs-own nodes st s past.fragment past.needed)) past.needed)
 
-  there-by : (s : StripeNo) → has_work (stored_of nodes st spare) s ≡ true → Contains st.stripes s
+  there-by : (s : StripeNo) → has_work (stored_of nodes st) s ≡ true → Contains st.stripes s
   there-by s has = stripe-there st s (and_parts (has_stripe st s) _ has).0
 
-  pub grantable-all : (stripes : List StripeNo) → AreWork (stored_of nodes st spare) stripes → HaveGrantable nodes st stripes
+  pub grantable-all : (stripes : List StripeNo) → AreWork (stored_of nodes st) stripes → HaveGrantable nodes st stripes
   grantable-all stripes are = record {
     there = λ s here. there-by s ((are.each s).0 here);
-    rising = subst (λ (by : StripeNo → ℕ). AllPairs (λ r t. comes_first by r t ≡ true) stripes) (rank-kept nodes st spare) are.rising;
-    each = λ p there grantable. (are.each p.0).1 (has-work nodes st spare p.0 there (granted-works nodes st spare p grantable));
+    rising = subst (λ (by : StripeNo → ℕ). AllPairs (λ r t. comes_first by r t ≡ true) stripes) (rank-kept nodes st) are.rising;
+    each = λ p there grantable. (are.each p.0).1 (has-work nodes st p.0 there (granted-works nodes st p grantable));
   }
 
-  pub grantable-from : (first : StripeNo) (stripes : List StripeNo) → IsPast nodes st first → AreWorkFrom (stored_of nodes st spare) first stripes
+  pub grantable-from : (first : StripeNo) (stripes : List StripeNo) → IsPast nodes st first → AreWorkFrom (stored_of nodes st) first stripes
       → HaveGrantable nodes st stripes
   grantable-from first stripes past are = record {
-    there = λ s here. there-by s (and_parts (has_work (stored_of nodes st spare) s) _ ((are.each s).0 here)).0;
-    rising = subst (λ (by : StripeNo → ℕ). AllPairs (λ r t. comes_first by r t ≡ true) stripes) (rank-kept nodes st spare) are.rising;
+    there = λ s here. there-by s (and_parts (has_work (stored_of nodes st) s) _ ((are.each s).0 here)).0;
+    rising = subst (λ (by : StripeNo → ℕ). AllPairs (λ r t. comes_first by r t ≡ true) stripes) (rank-kept nodes st) are.rising;
     each = λ p there grantable.
         let words = grantable-words nodes st p (member-filter (is_grantable nodes st) (all_fragments st) p (fragments-from st st.stripes p (grantable-own nodes st p grantable) there) grantable) in
-        (are.each p.0).1 (and_from _ _ (has-work nodes st spare p.0 there (granted-works nodes st spare p grantable)) (ap (λ (by : StripeNo → ℕ). not (comes_first by p.0 first)) (rank-kept nodes st spare) ∙ ap not (past.first p words)));
+        (are.each p.0).1 (and_from _ _ (has-work nodes st p.0 there (granted-works nodes st p grantable)) (ap (λ (by : StripeNo → ℕ). not (comes_first by p.0 first)) (rank-kept nodes st) ∙ ap not (past.first p words)));
   }

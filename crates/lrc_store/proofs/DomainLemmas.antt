@@ -1,5 +1,5 @@
 -- How the stored stripes follow an upgrade domain that is upgrading, or no longer.
-use Rattle.std.proofs.Common.{◌≡◌, ℕ, Bool, true, false, if◌then◌else◌, List, Option, Some, None, refl, ap, ◌∙◌}
+use Rattle.std.proofs.Common.{◌≡◌, Bool, true, false, if◌then◌else◌, List, Option, Some, None, refl, ap, ◌∙◌}
 use Rattle.std.specs.Option.{option_map_or}
 use Rattle.lrc_code.specs.declared.numbers.UpgradeNo.{UpgradeNo}
 use Rattle.lrc_code.specs.Numbers.{same_upgrade}
@@ -16,15 +16,14 @@ use Rattle.lrc_store.specs.Stores.{IsOf, stored_of}
 use Rattle.lrc_rules.proofs.SeatedLemmas.{upgrading-seated}
 use Rattle.lrc_rules.proofs.LookUpLemmas.{test-sym}
 use Rattle.lrc_store.proofs.NodeStateLemmas.{upgrading-set}
-use Rattle.lrc_store.proofs.StoredLemmas.{own-spare}
 
 module _ (nodes : List NodeInfo) (st : State) (u : UpgradeNo) where
   domain-set : (v : Option UpgradeNo) (b : Bool) → ((x : NodeInfo) → (if same_upgrade x.upgrade u then b else is_upgrading st x) ≡ is_upgrading (record st { upgrading = v }) x)
-      → (spare : ℕ) → stored.with_upgrading_in (stored_of nodes st spare) u b ≡ stored_of nodes (record st { upgrading = v }) spare
-  domain-set v b each spare = ap (λ (list : List NodeState). record (stored_of nodes st spare) { nodes = list }) (upgrading-set st v u b each nodes)
+      → stored.with_upgrading_in (stored_of nodes st) u b ≡ stored_of nodes (record st { upgrading = v })
+  domain-set v b each = ap (λ (list : List NodeState). record (stored_of nodes st) { nodes = list }) (upgrading-set st v u b each nodes)
 
   -- the domain is upgrading, where none was
-  pub domain-out : st.upgrading ≡ None → (spare : ℕ) → stored.with_upgrading_in (stored_of nodes st spare) u true ≡ stored_of nodes (with_upgrading st u) spare
+  pub domain-out : st.upgrading ≡ None → stored.with_upgrading_in (stored_of nodes st) u true ≡ stored_of nodes (with_upgrading st u)
   domain-out none = domain-set (Some u) true (λ x.
       ap (λ (o : Option UpgradeNo). if same_upgrade x.upgrade u then true else option_map_or (λ v. same_upgrade v x.upgrade) o false) none
       ∙ (itself (same_upgrade x.upgrade u) ∙ test-sym x.upgrade.value u.value)) where
@@ -33,7 +32,7 @@ module _ (nodes : List NodeInfo) (st : State) (u : UpgradeNo) where
         itself false = refl
 
   -- it is no longer
-  pub domain-back : st.upgrading ≡ Some u → (spare : ℕ) → stored.with_upgrading_in (stored_of nodes st spare) u false ≡ stored_of nodes (without_upgrading st) spare
+  pub domain-back : st.upgrading ≡ Some u → stored.with_upgrading_in (stored_of nodes st) u false ≡ stored_of nodes (without_upgrading st)
   domain-back this = domain-set None false (λ x.
       ap (λ (o : Option UpgradeNo). if same_upgrade x.upgrade u then false else option_map_or (λ v. same_upgrade v x.upgrade) o false) this
       ∙ (ap (λ (b : Bool). if same_upgrade x.upgrade u then false else b) (test-sym u.value x.upgrade.value) ∙ neither (same_upgrade x.upgrade u))) where
@@ -43,14 +42,14 @@ module _ (nodes : List NodeInfo) (st : State) (u : UpgradeNo) where
 
 -- with the stripes told, what is kept is that of the state in which a domain is upgrading, or none
 pub domain-kept : (st : State) (upgrading : Option UpgradeNo) (k : Store) (stripes : tables.Table) → IsOf st k
-    → stored_in stripes ≡ stored_of k.topology (record st { upgrading = upgrading }) (stored_in k.stripes).spare
+    → stored_in stripes ≡ stored_of k.topology (record st { upgrading = upgrading })
     → IsOf (record st { upgrading = upgrading }) (record k { upgrading = upgrading; stripes = stripes })
 domain-kept st upgrading k stripes kept set = record {
   known = kept.known;
   seated = upgrading-seated k.topology st upgrading kept.seated;
   apart = kept.apart;
   table_is = kept.table_is;
-  stripes_is = own-spare k.topology (record st { upgrading = upgrading }) (stored_in stripes) (stored_in k.stripes).spare set;
+  stripes_is = set;
   leases_is = kept.leases_is;
   upgrading_is = refl;
   domains_are = kept.domains_are;

@@ -65,9 +65,9 @@ module _ (st : State) (clock left : ℕ) (k : Store) (due : IsDue st clock left 
 -- ---- how many
 
 -- a walk over all leases that end at a clock is as long as they are many
-pub counted-walk : (clock : ℕ) (leases walked : List Lease) (spare : ℕ) → AreOneEach leases → AreThose (ends_at clock) (leased_of leases spare) walked
+pub counted-walk : (clock : ℕ) (leases walked : List Lease) → AreOneEach leases → AreThose (ends_at clock) (leased_of leases 0) walked
     → length walked ≡ count_by (ends_at clock) leases
-counted-walk clock leases walked spare one are =
+counted-walk clock leases walked one are =
     same-length walked (filter (ends_at clock) leases) are.once (one_each-filter (ends_at clock) leases one)
     (λ l here. let both = (are.each l).0 here in member-filter (ends_at clock) leases l (leases_in-contains leases l.stripe l.fragment.value l both.0) both.1)
     (λ l here. let parts = filter-member (ends_at clock) leases l here in (are.each l).1 (contains-leases_in leases l one parts.0, parts.1))

@@ -1,5 +1,5 @@
 -- A lease that is granted, and one that ends.
-use Rattle.std.proofs.Common.{[], ◌≡◌, ◌≢◌, ℕ, is_some, IsSomeAnd, lt-ltb, ◌-◌, ◌<◌, Bool, true, false, not, nat_lt, List, ◌∷◌, map, filter, find, Option, Some, None, IsTrue, refl, sym, ap, ◌∙◌, subst, inl, inr}
+use Rattle.std.proofs.Common.{[], ◌≡◌, ◌≢◌, ℕ, is_some, IsSomeAnd, lt-ltb, ◌<◌, Bool, true, false, not, nat_lt, List, ◌∷◌, map, filter, find, Option, Some, None, IsTrue, refl, sym, ap, ◌∙◌, subst, inl, inr}
 use Rattle.std.specs.List.{All, Contains}
 use Rattle.std.specs.Option.{option_map_or}
 use Rattle.std.proofs.lemmas.Bool.{cases_Bool, false_from_ne_true}
@@ -18,7 +18,8 @@ use Rattle.lrc_nodes.specs.States.{infos_in}
 use Rattle.lrc_stripes.specs.Stored.{Stored, has_slot, HasNoHome}
 use Rattle.lrc_stripes.specs.Tables.{stored_in}
 use Rattle.lrc_terms.specs.declared.lease.Lease.{Lease}
-use Rattle.lrc_terms.specs.Leased.{Leased, is_of, leased_of, leased_at, with_spare}
+use Rattle.lrc_homes.specs.Domains.{AreDomainsKept}
+use Rattle.lrc_terms.specs.Leased.{Leased, is_of, leased_of, leased_at}
 use Rattle.std.proofs.lemmas.Nat.Bits.{bit_at-zero}
 use Rattle.lrc_code.specs.Losses.{bits_set}
 use Rattle.lrc_leases.specs.Tables.{leased_in}
@@ -30,7 +31,7 @@ use Rattle.lrc_rules.specs.Goodness.{AreSeated, IsStanding}
 use Rattle.lrc_bars.specs.Ties.{table_of, kept_table}
 use Rattle.lrc_store.specs.Dropping.{unleased}
 use Rattle.lrc_rules.specs.Steps.{without_upgrading}
-use Rattle.lrc_store.specs.Stores.{IsOf, IsGrant, MayLease, AreTargetDomains}
+use Rattle.lrc_store.specs.Stores.{IsOf, IsGrant, MayLease, targets_in}
 use Rattle.lrc_store.proofs.NodeStateLemmas.{infos-kept}
 use Rattle.lrc_store.proofs.TargetLemmas.{targets-without}
 use Rattle.lrc_bars.proofs.ClosedLemmas.{settled-seated}
@@ -41,7 +42,7 @@ use Rattle.lrc_rules.proofs.SeatingLists.{pairs-unmap}
 use Rattle.lrc_rules.proofs.SeatingLemmas.{MayStand, held-single, leased-seated, choice-stands}
 use Rattle.lrc_rules.proofs.LeaseGoodLemmas.{ended-seated, moved-seated}
 use Rattle.lrc_rules.proofs.TakenLemmas.{taken-cases, home-seat, target-seat, taken-same, member-map}
-use Rattle.lrc_store.proofs.StoredLemmas.{stored-put, stored-free, own-spare}
+use Rattle.lrc_store.proofs.StoredLemmas.{stored-put, stored-free}
 use Rattle.lrc_store.proofs.PlacingLemmas.{chosen-here}
 use Rattle.lrc_bars.proofs.SlotTableLemmas.{table-more, table-less}
 use Rattle.lrc_rules.proofs.LookUpLemmas.{lease-own, only-lease, stripe-there, there-lease}
@@ -49,11 +50,6 @@ use Rattle.lrc_slots.specs.Tables as slot_tables
 use Rattle.lrc_stripes.specs.Stored as stored
 use Rattle.lrc_stripes.specs.Tables as tables
 use Rattle.lrc_terms.specs.Leased as leased
-use Rattle.lrc_leases.specs.Tables as lease_tables
-
--- what is kept of leases with some room is so with its own
-pub own-room : (ls : List Lease) (t : Leased) (spare : ℕ) → t ≡ leased_of ls spare → t ≡ leased_of ls t.spare
-own-room ls t spare e = e ∙ ap (leased_of ls) (sym (ap (λ (u : Leased). u.spare) e))
 
 -- ---- the lease of a fragment
 
@@ -148,11 +144,10 @@ module _ (st : State) (k : Store) (kept : IsOf st k) (s : StripeNo) (f : Fragmen
   lease-kept = ap (λ (t : Leased). t.leases s f.value) kept.leases_is
 
   -- the leases without it
-  pub leases-out : (leases : lease_tables.Table) → leased_in leases ≡ with_spare (leased.without_lease (leased_in k.leases) s f) (leased_in leases).spare
-      → leased_in leases ≡ leased_of (without_lease st s f).leases (leased_in leases).spare
+  pub leases-out : (leases : List Lease) → leased_in leases ≡ leased.without_lease (leased_in k.leases) s f
+      → leased_in leases ≡ leased_of (without_lease st s f).leases 0
   leases-out leases out =
-      out ∙ ap (λ (t : Leased). with_spare (leased.without_lease t s f) (leased_in leases).spare) kept.leases_is
-      ∙ ap (λ (t : Leased). with_spare t (leased_in leases).spare) (sym (leased_of-less st.leases s f (leased_in k.leases).spare))
+      out ∙ ap (λ (t : Leased). leased.without_lease t s f) kept.leases_is ∙ sym (leased_of-less st.leases s f 0)
 
   -- its target's slot is taken
   pub end-taken : (l : Lease) → lease_of st s f ≡ Some l → (slots_of k.table).taken l.target.node l.target.slot ≡ true
@@ -161,8 +156,8 @@ module _ (st : State) (k : Store) (kept : IsOf st k) (s : StripeNo) (f : Fragmen
       ∙ member-taken (taken_seats st) l.target.node l.target.slot (target-seat st l (there-lease k.topology st s f l live kept.seated).0)
 
   -- with the lease out and its target given back, what is kept is that of the state without it
-  pub end-kept : (l : Lease) → lease_of st s f ≡ Some l → (table : slot_tables.Table) (leases : lease_tables.Table) → slots_of table ≡ with_free (slots_of k.table) l.target.node l.target.slot
-      → leased_in leases ≡ with_spare (leased.without_lease (leased_in k.leases) s f) (leased_in leases).spare → IsOf (without_lease st s f) (record k { table = table; leases = leases })
+  pub end-kept : (l : Lease) → lease_of st s f ≡ Some l → (table : slot_tables.Table) (leases : List Lease) → slots_of table ≡ with_free (slots_of k.table) l.target.node l.target.slot
+      → leased_in leases ≡ leased.without_lease (leased_in k.leases) s f → IsOf (without_lease st s f) (record k { table = table; leases = leases })
   end-kept l live table leases freed out = record {
     known = kept.known;
     seated = ended-seated k.topology st s f kept.seated;
@@ -172,12 +167,12 @@ module _ (st : State) (k : Store) (kept : IsOf st k) (s : StripeNo) (f : Fragmen
     leases_is = leases-out leases out;
     apart = kept.apart;
     upgrading_is = kept.upgrading_is;
-    domains_are = targets-without k.topology (leased_in k.leases) k.target_domains.items s f (leased_in leases) (leased_in leases).spare out kept.domains_are;
+    domains_are = targets-without k.topology (leased_in k.leases) k.target_domains.items s f (leased_in leases) out kept.domains_are;
     clock_is = kept.clock_is;
   }
 
   -- a fragment without a lease has none to end
-  pub end-none : lease_of st s f ≡ None → (leases : lease_tables.Table) → leased_in leases ≡ with_spare (leased.without_lease (leased_in k.leases) s f) (leased_in leases).spare
+  pub end-none : lease_of st s f ≡ None → (leases : List Lease) → leased_in leases ≡ leased.without_lease (leased_in k.leases) s f
       → IsOf (without_lease st s f) (record k { leases = leases })
   end-none none leases out = record {
     known = kept.known;
@@ -187,7 +182,7 @@ module _ (st : State) (k : Store) (kept : IsOf st k) (s : StripeNo) (f : Fragmen
     leases_is = leases-out leases out;
     apart = kept.apart;
     upgrading_is = kept.upgrading_is;
-    domains_are = targets-without k.topology (leased_in k.leases) k.target_domains.items s f (leased_in leases) (leased_in leases).spare out kept.domains_are;
+    domains_are = targets-without k.topology (leased_in k.leases) k.target_domains.items s f (leased_in leases) out kept.domains_are;
     clock_is = kept.clock_is;
   }
 
@@ -204,24 +199,22 @@ module _ (st : State) (k : Store) (kept : IsOf st k) (s : StripeNo) (f : Fragmen
 
   pub move-unused : HasNoHome (stored_in k.stripes) l.target
   move-unused = subst (λ (t : Stored). HasNoHome t l.target) (sym kept.stripes_is)
-      (stored-free k.topology st (stored_in k.stripes).spare l.target (home-apart k.topology st s f l live kept.seated))
+      (stored-free k.topology st l.target (home-apart k.topology st s f l live kept.seated))
 
   -- the table is that without the former home
-  pub move-kept : (table : slot_tables.Table) (stripes : tables.Table) (leases : lease_tables.Table)
+  pub move-kept : (table : slot_tables.Table) (stripes : tables.Table) (leases : List Lease)
       → slots_of table ≡ kept_table k.topology (without_home st s f) → stored_in stripes ≡ stored.with_home (stored_in k.stripes) s f (Some l.target)
-      → leased_in leases ≡ with_spare (leased.without_lease (leased_in k.leases) s f) (leased_in leases).spare
+      → leased_in leases ≡ leased.without_lease (leased_in k.leases) s f
       → IsOf (moved_in st s f l.target) (record k { table = table; stripes = stripes; leases = leases })
   move-kept table stripes leases freed set out = record {
     known = kept.known;
     seated = moved-seated k.topology st s f l live kept.seated;
     table_is = freed ∙ move-table k.topology (without_upgrading st) s f l live (settled-seated k.topology st kept.seated);
-    stripes_is = own-spare k.topology (moved_in st s f l.target) (stored_in stripes) (stored_in k.stripes).spare
-        (set ∙ ap (λ (t : Stored). stored.with_home t s f (Some l.target)) kept.stripes_is
-        ∙ stored-put k.topology st (stored_in k.stripes).spare s f l.target);
+    stripes_is = set ∙ ap (λ (t : Stored). stored.with_home t s f (Some l.target)) kept.stripes_is ∙ stored-put k.topology st s f l.target;
     leases_is = leases-out st k kept s f leases out;
     apart = kept.apart;
     upgrading_is = kept.upgrading_is;
-    domains_are = targets-without k.topology (leased_in k.leases) k.target_domains.items s f (leased_in leases) (leased_in leases).spare out kept.domains_are;
+    domains_are = targets-without k.topology (leased_in k.leases) k.target_domains.items s f (leased_in leases) out kept.domains_are;
     clock_is = kept.clock_is;
   }
 
@@ -273,20 +266,19 @@ module _ (st : State) (k : Store) (kept : IsOf st k) (l : Lease) (may : MayLease
   }
 
   -- with the domains of its target stored, what is kept is that of the state with it
-  pub add-kept : (table : slot_tables.Table) (leases : lease_tables.Table) (m : Store)
+  pub add-kept : (table : slot_tables.Table) (leases : List Lease) (m : Store)
       → slots_of table ≡ with_taken (slots_of k.table) l.target.node (Some l.target.slot) → leased_in leases ≡ leased.with_lease (leased_in k.leases) l
-      → (AreTargetDomains k.topology (leased_in k.leases) k.target_domains.items → AreTargetDomains k.topology (leased.with_lease (leased_in k.leases) l) m.target_domains.items)
+      → (AreDomainsKept k.topology (targets_in (leased_in k.leases)) k.target_domains.items → AreDomainsKept k.topology (targets_in (leased.with_lease (leased_in k.leases) l)) m.target_domains.items)
       → IsOf (with_lease st l) (record k { table = table; leases = leases; target_domains = m.target_domains })
   add-kept table leases m taken added put = record {
     known = kept.known;
     seated = leased-seated k.topology st kept.seated l may-stand may.new;
     table_is = taken ∙ ap (λ (t : Slots). with_taken t l.target.node (Some l.target.slot)) kept.table_is ∙ add-table;
     stripes_is = kept.stripes_is;
-    leases_is = own-room (with_lease st l).leases (leased_in leases) ((leased_in k.leases).spare - 1)
-        (added ∙ ap (λ (t : Leased). leased.with_lease t l) kept.leases_is ∙ sym (leased_of-append st.leases l (leased_in k.leases).spare may.new));
+    leases_is = added ∙ ap (λ (t : Leased). leased.with_lease t l) kept.leases_is ∙ sym (leased_of-append st.leases l 0 may.new);
     apart = kept.apart;
     upgrading_is = kept.upgrading_is;
-    domains_are = subst (λ (t : Leased). AreTargetDomains k.topology t m.target_domains.items) (sym added) (put kept.domains_are);
+    domains_are = subst (λ (t : Leased). AreDomainsKept k.topology (targets_in t) m.target_domains.items) (sym added) (put kept.domains_are);
     clock_is = kept.clock_is;
   }
 

@@ -153,7 +153,7 @@ module _ (nodes : List NodeInfo) (st : State) (s : StripeNo) (f : Fragment) wher
   -- the homes of other fragments stay
   pub others-stay : (g : Fragment) → f.value ≢ g.value → homes_of (without_home st s f).homes s g.value ≡ homes_of st.homes s g.value
   others-stay g apart =
-      sym (ap (λ (x : Stored). x.homes s g.value) (stored-clear nodes st 0 s f))
+      sym (ap (λ (x : Stored). x.homes s g.value) (stored-clear nodes st s f))
       ∙ rw (eq-eqb s.value s.value refl, ne_eqb f.value g.value apart) refl
 
 -- The homes of the first fragments are cleared in the state of the table, and those of the others stand as they were.
@@ -206,7 +206,7 @@ module _ (nodes : List NodeInfo) (st : State) (s : StripeNo) (i : ℕ) (d : Frag
 pub dropped-kept : (st : State) (s : StripeNo) (before k : Store) (table : slots.Table) (stripes : tables.Table)
     → IsOf st before → IsOf (unleased st s (fragments Wide)) k → k.topology ≡ before.topology
     → slots_of table ≡ kept_table k.topology (homeless (unleased st s (fragments Wide)) s (fragments Wide))
-    → stored_in stripes ≡ stored.with_spare (stored.without_stripe (stored_in k.stripes) s) (stored_in stripes).spare
+    → stored_in stripes ≡ stored.without_stripe (stored_in k.stripes) s
     → IsOf (without_stripe st s) (record k { table = table; stripes = stripes })
 dropped-kept st s before k table stripes first last same freed removed =
     let left = record st { leases = filter (λ l. is_other s l.stripe) st.leases } in
@@ -214,8 +214,7 @@ dropped-kept st s before k table stripes first last same freed removed =
       known = kept.known;
       seated = without-seated k.topology kept.known st s (subst (λ ns. AreSeated ns st) (sym same) first.seated);
       table_is = freed ∙ ap (kept_table k.topology) (ap (λ (x : State). homeless x s (fragments Wide)) (unleased-all st s) ∙ homeless-all left s);
-      stripes_is = removed ∙ ap (λ (x : Stored). stored.with_spare (stored.without_stripe x s) (stored_in stripes).spare) kept.stripes_is
-          ∙ ap (λ (x : Stored). stored.with_spare x (stored_in stripes).spare) (stored-without k.topology left (stored_in k.stripes).spare s);
+      stripes_is = removed ∙ ap (λ (x : Stored). stored.without_stripe x s) kept.stripes_is ∙ stored-without k.topology left s;
       leases_is = kept.leases_is;
       apart = kept.apart;
       upgrading_is = kept.upgrading_is;

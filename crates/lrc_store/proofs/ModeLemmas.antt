@@ -1,5 +1,5 @@
 -- How the slot table and the stored stripes follow the state of a node.
-use Rattle.std.proofs.Common.{◌≡◌, ℕ, Bool, true, false, not, if◌then◌else◌, ◌&&◌, eqb, List, Option, Some, None, IsSome, refl, sym, ap, ap₂, ◌∙◌, subst}
+use Rattle.std.proofs.Common.{◌≡◌, Bool, true, false, not, if◌then◌else◌, ◌&&◌, eqb, List, Option, Some, None, IsSome, refl, sym, ap, ap₂, ◌∙◌, subst}
 use Rattle.std.proofs.Math.Path.{fun_ext}
 use Rattle.std.specs.Option.{option_map_or}
 use Rattle.std.proofs.lemmas.Bool.{eqb-true}
@@ -29,7 +29,6 @@ use Rattle.lrc_store.specs.declared.store.Store.{Store}
 use Rattle.lrc_store.specs.Stores.{IsOf, stored_of}
 use Rattle.lrc_bars.specs.Ties.{kept_table}
 use Rattle.lrc_store.proofs.NodeStateLemmas.{state-set}
-use Rattle.lrc_store.proofs.StoredLemmas.{own-spare}
 
 -- ---- a node whose mode was changed
 
@@ -81,9 +80,9 @@ module _ (nodes : List NodeInfo) (n : NodeNo) (was : State) (gone draining down 
     table-set there = ap (λ (eligible : NodeNo → Bool). record (kept_table nodes was) { eligible = eligible }) (fun_ext (eligible-at there))
 
     -- and so do the stripes
-    stored-set : (mode : Mode) (b : Bool) → mode ≡ mode_of st n → b ≡ is_down st n → (spare : ℕ) → stored.with_state (stored_of nodes was spare) n mode b ≡ stored_of nodes st spare
-    stored-set mode b mode_is down_is spare =
-        ap (λ (list : List NodeState). record (stored_of nodes was spare) { nodes = list })
+    stored-set : (mode : Mode) (b : Bool) → mode ≡ mode_of st n → b ≡ is_down st n → stored.with_state (stored_of nodes was) n mode b ≡ stored_of nodes st
+    stored-set mode b mode_is down_is =
+        ap (λ (list : List NodeState). record (stored_of nodes was) { nodes = list })
         (state-set was st n mode b mode_is down_is refl (λ m same. equal_nodes n m (eqb-true n.value m.value same))
         (λ m other. let same = others m other in (rw (same.gone, same.draining) refl, same.down)) nodes)
 
@@ -101,8 +100,7 @@ state-kept n was gone draining down k kept seated apart there others mode b mode
       apart = apart;
       table_is = set ∙ ap₂ (λ (t : Slots) (c : Bool). with_eligible t n c) kept.table_is (ap₂ (λ (m : Mode) (d : Bool). is_active m && not d) mode_is down_is)
           ∙ table-set k.topology n was gone draining down others there;
-      stripes_is = own-spare k.topology st (stored_in stripes) (stored_in k.stripes).spare
-          (set_too ∙ ap (λ (t : Stored). stored.with_state t n mode b) kept.stripes_is ∙ stored-set k.topology n was gone draining down others mode b mode_is down_is (stored_in k.stripes).spare);
+      stripes_is = set_too ∙ ap (λ (t : Stored). stored.with_state t n mode b) kept.stripes_is ∙ stored-set k.topology n was gone draining down others mode b mode_is down_is;
       leases_is = kept.leases_is;
       upgrading_is = kept.upgrading_is;
       domains_are = kept.domains_are;

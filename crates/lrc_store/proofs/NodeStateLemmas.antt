@@ -1,5 +1,5 @@
 -- The nodes of a state as they are stored: what their states show, and where one is set.
-use Rattle.std.proofs.Common.{◌≡◌, ℕ, Bool, true, false, ◌&&◌, if◌then◌else◌, nat_eq, List, [], ◌∷◌, map, Option, Some, None, IsSome, option_map, refl, sym, ap, ap₂, ◌∙◌, inl, inr}
+use Rattle.std.proofs.Common.{◌≡◌, Bool, true, false, ◌&&◌, if◌then◌else◌, nat_eq, List, [], ◌∷◌, map, Option, Some, None, IsSome, option_map, refl, sym, ap, ap₂, ◌∙◌, inl, inr}
 use Rattle.std.proofs.Math.Path.{fun_ext}
 use Rattle.std.specs.Option.{option_map_or}
 use Rattle.std.proofs.lemmas.Bool.{cases_Bool}
@@ -97,22 +97,21 @@ module _ (nodes : List NodeInfo) (st : State) where
 
   -- ---- what the stored stripes show
 
-  module _ (spare : ℕ) where
-    pub rank-kept : rank_in (stored_of nodes st spare) ≡ rank nodes st
-    rank-kept = fun_ext (λ s. ap (λ (online : NodeNo → Bool). rank_by (code_of st s) (missing_in (code_of st s) online (homes_of st.homes s))) online-kept)
+  pub rank-kept : rank_in (stored_of nodes st) ≡ rank nodes st
+  rank-kept = fun_ext (λ s. ap (λ (online : NodeNo → Bool). rank_by (code_of st s) (missing_in (code_of st s) online (homes_of st.homes s))) online-kept)
 
-    module _ (s : StripeNo) where
-      pub missing-kept : missing_shown (stored_of nodes st spare) s ≡ states.missing_shown nodes st s
-      missing-kept = ap (λ (online : NodeNo → Bool). missing_if (has_stripe st s) (code_of st s) online (homes_of st.homes s)) online-kept
+  module _ (s : StripeNo) where
+    pub missing-kept : missing_shown (stored_of nodes st) s ≡ states.missing_shown nodes st s
+    missing-kept = ap (λ (online : NodeNo → Bool). missing_if (has_stripe st s) (code_of st s) online (homes_of st.homes s)) online-kept
 
-      pub needs-kept : needs_shown (stored_of nodes st spare) s ≡ needs_if (has_stripe st s) (code_of st s) (drains_at nodes st) (homes_of st.homes s)
-      needs-kept = ap (λ (draining : NodeNo → Bool). needs_if (has_stripe st s) (code_of st s) draining (homes_of st.homes s)) draining-kept
+    pub needs-kept : needs_shown (stored_of nodes st) s ≡ needs_if (has_stripe st s) (code_of st s) (drains_at nodes st) (homes_of st.homes s)
+    needs-kept = ap (λ (draining : NodeNo → Bool). needs_if (has_stripe st s) (code_of st s) draining (homes_of st.homes s)) draining-kept
 
-      pub level-kept : stored.level_shown (stored_of nodes st spare) s ≡ states.level_shown nodes st s
-      level-kept = ap (λ (online : NodeNo → Bool). level_if (has_stripe st s) (code_of st s) online (homes_of st.homes s)) online-kept
+    pub level-kept : stored.level_shown (stored_of nodes st) s ≡ states.level_shown nodes st s
+    level-kept = ap (λ (online : NodeNo → Bool). level_if (has_stripe st s) (code_of st s) online (homes_of st.homes s)) online-kept
 
-      pub work-kept : has_work (stored_of nodes st spare) s ≡ (has_stripe st s && has_some (code_of st s) (needs_in (code_of st s) (drains_at nodes st) (homes_of st.homes s)))
-      work-kept = ap (λ (draining : NodeNo → Bool). has_stripe st s && has_some (code_of st s) (needs_in (code_of st s) draining (homes_of st.homes s))) draining-kept
+    pub work-kept : has_work (stored_of nodes st) s ≡ (has_stripe st s && has_some (code_of st s) (needs_in (code_of st s) (drains_at nodes st) (homes_of st.homes s)))
+    work-kept = ap (λ (draining : NodeNo → Bool). has_stripe st s && has_some (code_of st s) (needs_in (code_of st s) draining (homes_of st.homes s))) draining-kept
 
 -- ---- the states set
 

@@ -1,5 +1,5 @@
 -- What is kept at first is that of the opening state.
-use Rattle.std.proofs.Common.{[], ◌≡◌, Bool, true, length, Option, Some, None, refl, ap, ◌∙◌}
+use Rattle.std.proofs.Common.{◌≡◌, Bool, true, length, Option, Some, None, refl, ap, ◌∙◌}
 use Rattle.std.proofs.Math.Path.{fun_ext}
 use Rattle.std.specs.Option.{option_map_or}
 use Rattle.lrc_code.specs.declared.numbers.NodeNo.{NodeNo}
@@ -15,8 +15,6 @@ use Rattle.lrc_store.specs.declared.store.Store.{Store}
 use Rattle.lrc_rules.specs.States.{opening, takes_seats}
 use Rattle.lrc_store.specs.Stores.{IsOf}
 use Rattle.lrc_rules.proofs.StepSeatedLemmas.{opening-seated}
-use Rattle.lrc_store.proofs.StoredLemmas.{own-spare}
-use Rattle.lrc_store.proofs.EndLemmas.{own-room}
 use Rattle.lrc_store.proofs.TargetLemmas.{targets-none}
 
 takes-first : (o : Option NodeInfo) → true ≡ option_map_or (takes_seats opening) o true
@@ -31,8 +29,8 @@ opening-kept k known table stripes leases long upgrading clock = record {
   apart = λ n gone. refl;
   table_is = table ∙ ap (λ (eligible : NodeNo → Bool). record (all_free k.topology) { eligible = eligible })
       (fun_ext (λ n. takes-first (node_at k.topology n)));
-  stripes_is = own-spare k.topology opening (stored_in k.stripes) 0 stripes;
-  leases_is = own-room [] (leased_in k.leases) 0 leases;
+  stripes_is = stripes;
+  leases_is = leases;
   upgrading_is = upgrading;
   domains_are = targets-none k.topology (leased_in k.leases) k.target_domains.items leases long;
   clock_is = clock;

@@ -1,5 +1,5 @@
 -- A home that is given, and a stripe's fragments placed one after the other.
-use Rattle.std.proofs.Common.{[], ◌≡◌, inl, inr, lt-ltb, ℕ, ◌+◌, ◌-◌, ◌<◌, ◌≤◌, true, false, nat_lt, List, ◌∷◌, ◌++◌, length, take, drop, get_or, Option, Some, sym, ap, ◌∙◌, subst, append_assoc, append-nil, arith}
+use Rattle.std.proofs.Common.{[], ◌≡◌, inl, inr, lt-ltb, ℕ, ◌+◌, ◌<◌, ◌≤◌, true, false, nat_lt, List, ◌∷◌, ◌++◌, length, take, drop, get_or, Option, Some, sym, ap, ◌∙◌, subst, append_assoc, append-nil, arith}
 use Rattle.std.specs.Option.{option_map_or}
 use Rattle.std.specs.List.{All, Contains}
 use Rattle.std.proofs.lemmas.List.{drop_more, take_more, take_all}
@@ -37,7 +37,7 @@ use Rattle.lrc_rules.proofs.ToldLemmas.{ArePlaced}
 use Rattle.lrc_store.proofs.ListLemmas.{held_at-more}
 use Rattle.lrc_rules.proofs.TakenLemmas.{taken-cases, home-seat, target-seat}
 use Rattle.lrc_bars.proofs.PlanLemmas.{chosen-first_free}
-use Rattle.lrc_store.proofs.StoredLemmas.{own-spare, stored-placed}
+use Rattle.lrc_store.proofs.StoredLemmas.{stored-placed}
 use Rattle.lrc_bars.proofs.SlotTableLemmas.{table-more}
 
 -- ---- one home given
@@ -46,10 +46,6 @@ use Rattle.lrc_bars.proofs.SlotTableLemmas.{table-more}
 module _ (st : State) (k : Store) (kept : IsOf st k) (s : StripeNo) (f : Fragment) (seat : Seat) (chosen_is : chosen k.topology st s f ≡ Some seat) where
   pub chosen-here : IsChoice k.topology st s f seat
   chosen-here = chosen-choice k.topology st s f seat kept.known chosen_is
-
-  -- the slot that is taken is the seat's
-  pub chosen-taken : least_free_at (slots_of k.table) seat.node ≡ Some seat.slot
-  chosen-taken = ap (λ (t : Slots). least_free_at t seat.node) kept.table_is ∙ chosen-first_free k.topology st s f seat kept.known chosen_is
 
 -- the seats of a state with one more home
 pub home-taken : (nodes : List NodeInfo) (st : State) (s : StripeNo) (f : Fragment) (seat : Seat) → slots.with_taken (kept_table nodes st) seat.node (Some seat.slot) ≡ kept_table nodes (with_home st s f seat)
@@ -160,9 +156,8 @@ placed-kept st code s seats i k table stripes past sixteen kept absent p added =
       known = kept.known;
       seated = subst (AreSeated k.topology) all p.placing.seated;
       table_is = p.table_is ∙ ap (kept_table k.topology) all;
-      stripes_is = own-spare k.topology (with_placed st code s seats) (stored_in stripes) ((stored_in k.stripes).spare - 1)
-          (added ∙ ap (λ (x : Stored). stored.with_homes x code s seats) kept.stripes_is
-          ∙ stored-placed k.topology st (stored_in k.stripes).spare code s seats kept.seated absent sixteen);
+      stripes_is = added ∙ ap (λ (x : Stored). stored.with_homes x code s seats) kept.stripes_is
+          ∙ stored-placed k.topology st code s seats kept.seated absent sixteen;
       leases_is = kept.leases_is;
       apart = kept.apart;
       upgrading_is = kept.upgrading_is;

@@ -111,8 +111,8 @@ two-in_all a b g a1 b1 g1 a0 b0 g0 x y z p q r few = omega (arith, x, y, z, p, q
 
 -- ---- a stripe without work
 
-module _ (nodes : List NodeInfo) (st : State) (spare : ℕ) (s : StripeNo) (seated : AreSeated nodes st) (there : has_stripe st s ≡ true)
-    (idle : has_work (stored_of nodes st spare) s ≡ false) where
+module _ (nodes : List NodeInfo) (st : State) (s : StripeNo) (seated : AreSeated nodes st) (there : has_stripe st s ≡ true)
+    (idle : has_work (stored_of nodes st) s ≡ false) where
   -- the fragment's home is on a node that is not online
   record IsAway (f : ℕ) : Type 0 where
     pub on : IsOn nodes st s seated f
@@ -125,7 +125,7 @@ module _ (nodes : List NodeInfo) (st : State) (spare : ℕ) (s : StripeNo) (seat
   homes f = option_map (λ (h : Held). h.seat) (home_of st.homes s f)
 
   none-needed : has_some code (needs_in code (drains_at nodes st) homes) ≡ false
-  none-needed = sym (ap (λ b. b && has_some code (needs_in code (drains_at nodes st) homes)) there) ∙ (sym (work-kept nodes st spare s) ∙ idle)
+  none-needed = sym (ap (λ b. b && has_some code (needs_in code (drains_at nodes st) homes)) there) ∙ (sym (work-kept nodes st s) ∙ idle)
 
   by-node : (f : ℕ) (h : Held) → home_of st.homes s f ≡ Some h → online_at nodes st h.seat.node ≡ false → (o : Option NodeInfo)
       → node_at nodes h.seat.node ≡ o → IsSomeAnd o (λ n. (h.seat.slot < n.slots) × (mode_of st h.seat.node ≢ Gone)) → IsAway f
@@ -154,15 +154,15 @@ module _ (nodes : List NodeInfo) (st : State) (spare : ℕ) (s : StripeNo) (seat
 
   -- such a node is counted
   abbrev counted : NodeInfo → Bool
-  counted n = not (online_at nodes st n.number) && is_stripe_on (stored_of nodes st spare) n.number s
+  counted n = not (online_at nodes st n.number) && is_stripe_on (stored_of nodes st) n.number s
 
-  counted-all : count_by counted nodes ≡ offline_count (stored_of nodes st spare) s
+  counted-all : count_by counted nodes ≡ offline_count (stored_of nodes st) s
   counted-all =
-      sym (ap₂ (λ (online : NodeNo → Bool) (ns : List NodeInfo). count_by (λ n. not (online n.number) && is_stripe_on (stored_of nodes st spare) n.number s) ns) (online-kept nodes st) (infos-kept st nodes))
+      sym (ap₂ (λ (online : NodeNo → Bool) (ns : List NodeInfo). count_by (λ n. not (online n.number) && is_stripe_on (stored_of nodes st) n.number s) ns) (online-kept nodes st) (infos-kept st nodes))
 
   -- the fragment's home is on the node
   abbrev is_on : Fragment → NodeInfo → Bool
-  is_on f n = is_home_on (stored_of nodes st spare) n.number (s, f)
+  is_on f n = is_home_on (stored_of nodes st) n.number (s, f)
 
   own-number : (f : ℕ) (t : IsAway f) → (t.on.home.seat.node ≡ t.on.node.number) × Contains nodes t.on.node
   own-number f t =
@@ -179,7 +179,7 @@ module _ (nodes : List NodeInfo) (st : State) (spare : ℕ) (s : StripeNo) (seat
   is-counted f n gone hit =
       let t = away f.value gone in
       and_from _ _ (ap not (ap (online_at nodes st) (on-number f n t hit) ∙ t.off))
-      (list_any-member (λ (g : Fragment). is_home_on (stored_of nodes st spare) n.number (s, g)) (fragments Wide) f (all-fragments f) hit)
+      (list_any-member (λ (g : Fragment). is_home_on (stored_of nodes st) n.number (s, g)) (fragments Wide) f (all-fragments f) hit)
 
   placed : (f : Fragment) → missing nodes st s f.value ≡ true → (n : NodeInfo) × Contains nodes n × (is_on f n ≡ true)
   placed f gone =
@@ -197,7 +197,7 @@ module _ (nodes : List NodeInfo) (st : State) (spare : ℕ) (s : StripeNo) (seat
       apart.faults (ap (λ (x : NodeInfo). x.fault) same)
 
   -- no more fragments are missing than it has homes on nodes that are not online
-  pub few-now : size_of code (missing nodes st s) ≤ offline_count (stored_of nodes st spare) s
+  pub few-now : size_of code (missing nodes st s) ≤ offline_count (stored_of nodes st) s
   few-now =
       subst (λ (k : ℕ). size_of code (missing nodes st s) ≤ k) counted-all
       (count-places (λ (f : Fragment). missing nodes st s f.value) is_on counted (fragments code) (fragments-distinct code) nodes placed is-counted one-each)
@@ -251,8 +251,8 @@ and-off : (a : Bool) → {b : Bool} → b ≡ false → (a && b) ≡ false
 and-off true e = e
 and-off false e = refl
 
-module _ (nodes : List NodeInfo) (st : State) (spare : ℕ) (seated : AreSeated nodes st) (u : UpgradeNo) (none : st.upgrading ≡ None) where
-  few-misses : (s : StripeNo) → misses_several (stored_of nodes st spare) s ≡ false → size_of (code_of st s) (missing nodes st s) ≤ 1
+module _ (nodes : List NodeInfo) (st : State) (seated : AreSeated nodes st) (u : UpgradeNo) (none : st.upgrading ≡ None) where
+  few-misses : (s : StripeNo) → misses_several (stored_of nodes st) s ≡ false → size_of (code_of st s) (missing nodes st s) ≤ 1
   few-misses s few =
       let more : nat_le 2 (size_of (code_of st s) (missing nodes st s)) ≡ false =
       ap (λ (online : NodeNo → Bool). nat_le 2 (size_of (code_of st s) (missing_in (code_of st s) online (homes_of st.homes s)))) (sym (online-kept nodes st)) ∙ few in
@@ -260,60 +260,60 @@ module _ (nodes : List NodeInfo) (st : State) (spare : ℕ) (seated : AreSeated 
       omega (arith, below)
 
   -- the fragments that the domain takes
-  loses-as : (s : StripeNo) → upgrades.loses_global (stored_of nodes st spare) u s ≡ nat_lt 0 (losses_in (code_of st s) G (added nodes st u s seated))
+  loses-as : (s : StripeNo) → upgrades.loses_global (stored_of nodes st) u s ≡ nat_lt 0 (losses_in (code_of st s) G (added nodes st u s seated))
   loses-as s =
-      ap (λ (t : Stored). nat_lt 0 (losses_in (code_of st s) G (λ f. not (missing_in (code_of st s) (online_in (stored_of nodes st spare).nodes) (homes_of st.homes s) f) && missing_in (code_of st s) (online_in t.nodes) (homes_of st.homes s) f)))
-      (domain-out nodes st u none spare)
+      ap (λ (t : Stored). nat_lt 0 (losses_in (code_of st s) G (λ f. not (missing_in (code_of st s) (online_in (stored_of nodes st).nodes) (homes_of st.homes s) f) && missing_in (code_of st s) (online_in t.nodes) (homes_of st.homes s) f)))
+      (domain-out nodes st u none)
       ∙ ap₂ (λ (now later : NodeNo → Bool). nat_lt 0 (losses_in (code_of st s) G (λ f. not (missing_in (code_of st s) now (homes_of st.homes s) f) && missing_in (code_of st s) later (homes_of st.homes s) f)))
       (online-kept nodes st) (online-kept nodes (with_upgrading st u))
 
   -- a stripe that is not short stays recoverable
-  few-after : (s : StripeNo) → has_stripe st s ≡ true → upgrades.is_short (stored_of nodes st spare) u s ≡ false
+  few-after : (s : StripeNo) → has_stripe st s ≡ true → upgrades.is_short (stored_of nodes st) u s ≡ false
       → excess (code_of st s) (missing nodes (with_upgrading st u) s) ≤ 2
   unfolding upgrades.is_short
   few-after s there e = elim (and_cases _ _ e) [
     | inl none ↦
         let unsure = or_false _ _ none in
         let idle = or_false _ _ unsure.0 in
-        let count = few-now nodes st spare s seated there idle.1 in
+        let count = few-now nodes st s seated there idle.1 in
         elim (and_cases _ _ unsure.1) [
-          | inl miss ↦ let most = ltb-false 1 (offline_count (stored_of nodes st spare) s) miss in few-then nodes st s seated u (omega (arith, count, most))
+          | inl miss ↦ let most = ltb-false 1 (offline_count (stored_of nodes st) s) miss in few-then nodes st s seated u (omega (arith, count, most))
           | inr kept ↦
-              let most = ltb-false 2 (offline_count (stored_of nodes st spare) s) idle.0 in
+              let most = ltb-false 2 (offline_count (stored_of nodes st) s) idle.0 in
               two-then nodes st s seated u (omega (arith, count, most)) (ltb-false _ _ (sym (loses-as s) ∙ kept))
         ]
     | inr few ↦ few-then nodes st s seated u (few-misses s few)
   ]
 
   -- a stripe that is lost is short
-  pub lost-short : (s : StripeNo) → upgrades.is_lost_to (stored_of nodes st spare) u s ≡ true → upgrades.is_short (stored_of nodes st spare) u s ≡ true
-  lost-short s lost = by (upgrades.is_short (stored_of nodes st spare) u s) refl where
-    by : (b : Bool) → upgrades.is_short (stored_of nodes st spare) u s ≡ b → upgrades.is_short (stored_of nodes st spare) u s ≡ true
+  pub lost-short : (s : StripeNo) → upgrades.is_lost_to (stored_of nodes st) u s ≡ true → upgrades.is_short (stored_of nodes st) u s ≡ true
+  lost-short s lost = by (upgrades.is_short (stored_of nodes st) u s) refl where
+    by : (b : Bool) → upgrades.is_short (stored_of nodes st) u s ≡ b → upgrades.is_short (stored_of nodes st) u s ≡ true
     by true e = e
     by false e = absurd (
-        let parts = and_parts (has_stripe st s) (is_lost_to nodes st u s) (sym (lost-as nodes st u none spare s) ∙ lost) in
+        let parts = and_parts (has_stripe st s) (is_lost_to nodes st u s) (sym (lost-as nodes st u none s) ∙ lost) in
         let few = few-after s parts.0 e in
         let clash : true ≡ false = sym (le-leb _ _ few) ∙ not-true _ (and_parts (is_safe nodes st s) _ parts.1).1 in cc)
 
-  lost-either : (s : StripeNo) → is_short_lost_to (stored_of nodes st spare) u s ≡ false → upgrades.is_lost_to (stored_of nodes st spare) u s ≡ false
-  lost-either s miss = by (upgrades.is_lost_to (stored_of nodes st spare) u s) refl where
-    by : (b : Bool) → upgrades.is_lost_to (stored_of nodes st spare) u s ≡ b → upgrades.is_lost_to (stored_of nodes st spare) u s ≡ false
+  lost-either : (s : StripeNo) → is_short_lost_to (stored_of nodes st) u s ≡ false → upgrades.is_lost_to (stored_of nodes st) u s ≡ false
+  lost-either s miss = by (upgrades.is_lost_to (stored_of nodes st) u s) refl where
+    by : (b : Bool) → upgrades.is_lost_to (stored_of nodes st) u s ≡ b → upgrades.is_lost_to (stored_of nodes st) u s ≡ false
     by false e = e
     by true e = absurd (let clash : true ≡ false = sym (and_from _ _ (lost-short s e) e) ∙ miss in cc)
 
   -- so the first short one that is lost is the first that is
-  pub short-first : (s : StripeNo) → IsFirstShortLostTo (stored_of nodes st spare) u s → IsFirstLostTo (stored_of nodes st spare) u s
+  pub short-first : (s : StripeNo) → IsFirstShortLostTo (stored_of nodes st) u s → IsFirstLostTo (stored_of nodes st) u s
   short-first s is = record {
-    lost = (and_parts (upgrades.is_short (stored_of nodes st spare) u s) _ is.lost).1;
+    lost = (and_parts (upgrades.is_short (stored_of nodes st) u s) _ is.lost).1;
     first = λ r lower. lost-either r (is.first r lower);
   }
 
-  pub first-short : (s : StripeNo) → IsFirstLostTo (stored_of nodes st spare) u s → IsFirstShortLostTo (stored_of nodes st spare) u s
+  pub first-short : (s : StripeNo) → IsFirstLostTo (stored_of nodes st) u s → IsFirstShortLostTo (stored_of nodes st) u s
   first-short s is = record {
     lost = and_from _ _ (lost-short s is.lost) is.lost;
-    first = λ r lower. and-off (upgrades.is_short (stored_of nodes st spare) u r) (is.first r lower);
+    first = λ r lower. and-off (upgrades.is_short (stored_of nodes st) u r) (is.first r lower);
   }
 
-  pub short-none : ((s : StripeNo) → IsFalse (is_short_lost_to (stored_of nodes st spare) u s)) → (s : StripeNo)
-      → IsFalse (upgrades.is_lost_to (stored_of nodes st spare) u s)
+  pub short-none : ((s : StripeNo) → IsFalse (is_short_lost_to (stored_of nodes st) u s)) → (s : StripeNo)
+      → IsFalse (upgrades.is_lost_to (stored_of nodes st) u s)
   short-none all s = lost-either s (all s)

@@ -1,5 +1,5 @@
 -- How what is stored of the stripes follows the state.
-use Rattle.std.proofs.Common.{[], ◌≡◌, ◌≢◌, ℕ, ◌-◌, Bool, true, false, not, if◌then◌else◌, ◌&&◌, ◌||◌, nat_eq, eqb, List, ◌∷◌, find, Option, Some, None, option_map, refl, sym, ap, ◌∙◌, inl, inr, zero-add, length, subst}
+use Rattle.std.proofs.Common.{[], ◌≡◌, ◌≢◌, ℕ, Bool, true, false, not, if◌then◌else◌, ◌&&◌, ◌||◌, nat_eq, eqb, List, ◌∷◌, find, Option, Some, None, option_map, refl, sym, ap, ◌∙◌, inl, inr, zero-add, length, subst}
 use Rattle.std.proofs.Math.Path.{fun_ext}
 use Rattle.std.specs.List.{Contains, slice_get}
 use Rattle.std.proofs.lemmas.Bool.{cases_Bool, eqb-true, eq-eqb}
@@ -47,22 +47,18 @@ same_stored t stripes stripes' code code' homes homes' a b c =
 pub same_homes : (t : Stored) (homes homes' : StripeNo → ℕ → Option Seat) → ((s : StripeNo) (f : ℕ) → homes s f ≡ homes' s f) → ◌≡◌ {A = Stored} (record t { homes = homes }) (record t { homes = homes' })
 same_homes t homes homes' b = ap (λ (h : StripeNo → ℕ → Option Seat). record t { homes = h }) (fun_ext (λ s. fun_ext (b s)))
 
--- what is stored of a state with some room is so with its own
-pub own-spare : (nodes : List NodeInfo) (st : State) (t : Stored) (spare : ℕ) → t ≡ stored_of nodes st spare → t ≡ stored_of nodes st t.spare
-own-spare nodes st t spare e = e ∙ ap (stored_of nodes st) (sym (ap (λ (u : Stored). u.spare) e))
-
 -- ---- stripes
 
 -- the homes of a stripe are told by its number
 abbrev pub homes_by : List Held → ℕ → ℕ → Option Seat
 homes_by homes v f = option_map (λ h. h.seat) (find (λ h. nat_eq h.stripe.value v && nat_eq h.fragment.value f) homes)
 
-module _ (nodes : List NodeInfo) (st : State) (spare : ℕ) (s : StripeNo) where
+module _ (nodes : List NodeInfo) (st : State) (s : StripeNo) where
   -- one more stripe
   pub stored-stripe : (code : Code) → AreSeated nodes st → has_stripe st s ≡ false
-      → stored.with_stripe (stored_of nodes st spare) code s ≡ stored_of nodes (with_stripe st code s) (spare - 1)
+      → stored.with_stripe (stored_of nodes st) code s ≡ stored_of nodes (with_stripe st code s)
   stored-stripe code seated absent =
-      same_stored (stored_of nodes st (spare - 1)) _ (has_stripe (with_stripe st code s)) _ (code_of (with_stripe st code s)) _ (λ r. homes_of st.homes r)
+      same_stored (stored_of nodes st) _ (has_stripe (with_stripe st code s)) _ (code_of (with_stripe st code s)) _ (λ r. homes_of st.homes r)
       (λ r. ap (λ b. b || has_stripe st r) (test-sym s.value r.value) ∙ or_nil (eqb r.value s.value) (has_stripe st r)
       ∙ sym (list_any-append (λ (t : StripeNo). eqb r.value t.value) st.stripes (s ∷ [])))
       (λ r. sym (code-with st code s r))
@@ -72,19 +68,19 @@ module _ (nodes : List NodeInfo) (st : State) (spare : ℕ) (s : StripeNo) where
       ])
 
   -- a stripe and its homes less
-  pub stored-without : stored.without_stripe (stored_of nodes st spare) s ≡ stored_of nodes (without_stripe st s) spare
+  pub stored-without : stored.without_stripe (stored_of nodes st) s ≡ stored_of nodes (without_stripe st s)
   stored-without =
-      same_stored (stored_of nodes st spare) _ (has_stripe (without_stripe st s)) _ (code_of (without_stripe st s)) _ (λ r. homes_of (without_stripe st s).homes r)
+      same_stored (stored_of nodes st) _ (has_stripe (without_stripe st s)) _ (code_of (without_stripe st s)) _ (λ r. homes_of (without_stripe st s).homes r)
       (λ r. sym (narrow-left s r st.stripes)) (λ r. sym (code-without st s r)) (λ r f. sym (homes-without st s r f))
 
   -- a home given to a fragment that has none
-  pub stored-home : (f : Fragment) (seat : Seat) → home_of st.homes s f.value ≡ None → stored.with_home (stored_of nodes st spare) s f (Some seat) ≡ stored_of nodes (with_home st s f seat) spare
+  pub stored-home : (f : Fragment) (seat : Seat) → home_of st.homes s f.value ≡ None → stored.with_home (stored_of nodes st) s f (Some seat) ≡ stored_of nodes (with_home st s f seat)
   stored-home f seat none =
-      same_homes (stored_of nodes st spare) _ (λ r. homes_of (with_home st s f seat).homes r) (λ r g. sym (homes-with st s f seat none r g))
+      same_homes (stored_of nodes st) _ (λ r. homes_of (with_home st s f seat).homes r) (λ r g. sym (homes-with st s f seat none r g))
 
   -- a fragment's home taken away
-  pub stored-clear : (f : Fragment) → stored.with_home (stored_of nodes st spare) s f None ≡ stored_of nodes (without_home st s f) spare
-  stored-clear f = same_homes (stored_of nodes st spare) _ (λ r. homes_of (without_home st s f).homes r) (λ r g. sym (homes-cleared st s f r g))
+  pub stored-clear : (f : Fragment) → stored.with_home (stored_of nodes st) s f None ≡ stored_of nodes (without_home st s f)
+  stored-clear f = same_homes (stored_of nodes st) _ (λ r. homes_of (without_home st s f).homes r) (λ r g. sym (homes-cleared st s f r g))
 
 -- a home that is set twice is as it was set last
 set-twice : (t : Stored) (s : StripeNo) (f : Fragment) (first last : Option Seat)
@@ -99,32 +95,32 @@ pub gone-home : (st : State) (s : StripeNo) (f : Fragment) → home_of (without_
 gone-home st s f = find-gone (is_of s f.value) (λ h. not (is_of s f.value h)) (λ h hit. ap not hit) st.homes
 
 -- a home put in place of another
-pub stored-put : (nodes : List NodeInfo) (st : State) (spare : ℕ) (s : StripeNo) (f : Fragment) (seat : Seat)
-    → stored.with_home (stored_of nodes st spare) s f (Some seat) ≡ stored_of nodes (with_home (without_home st s f) s f seat) spare
-stored-put nodes st spare s f seat =
-    set-twice (stored_of nodes st spare) s f None (Some seat)
-    ∙ ap (λ (t : Stored). stored.with_home t s f (Some seat)) (stored-clear nodes st spare s f)
-    ∙ stored-home nodes (without_home st s f) spare s f seat (gone-home st s f)
+pub stored-put : (nodes : List NodeInfo) (st : State) (s : StripeNo) (f : Fragment) (seat : Seat)
+    → stored.with_home (stored_of nodes st) s f (Some seat) ≡ stored_of nodes (with_home (without_home st s f) s f seat)
+stored-put nodes st s f seat =
+    set-twice (stored_of nodes st) s f None (Some seat)
+    ∙ ap (λ (t : Stored). stored.with_home t s f (Some seat)) (stored-clear nodes st s f)
+    ∙ stored-home nodes (without_home st s f) s f seat (gone-home st s f)
 
 -- ---- free seats
 
-module _ (nodes : List NodeInfo) (st : State) (spare : ℕ) (seat : Seat) where
+module _ (nodes : List NodeInfo) (st : State) (seat : Seat) where
   -- the home that is found on a seat is one of the state
   held-on : (s : StripeNo) (f : ℕ) (o : Option Held) → home_of st.homes s f ≡ o → seat_in o ≡ Some seat → (h : Held) × Contains st.homes h × (h.seat ≡ seat)
   held-on s f None e is = absurd (cc)
   held-on s f (Some h) e is = (h, (found-home st s f h e).0, same_Some h.seat seat is)
 
   -- a seat that is no home's is free
-  pub stored-free : ((h : Held) → Contains st.homes h → h.seat ≢ seat) → HasNoHome (stored_of nodes st spare) seat
+  pub stored-free : ((h : Held) → Contains st.homes h → h.seat ≢ seat) → HasNoHome (stored_of nodes st) seat
   stored-free none s f is = let m = held-on s f (home_of st.homes s f) refl is in none m.0 m.1 m.2
 
 -- a stripe that is added with its homes is stored as one that was placed
-pub stored-placed : (nodes : List NodeInfo) (st : State) (spare : ℕ) (code : Code) (s : StripeNo) (seats : List Seat) → AreSeated nodes st → has_stripe st s ≡ false
-    → length seats ≡ length (fragments code) → stored.with_homes (stored_of nodes st spare) code s seats ≡ stored_of nodes (with_placed st code s seats) (spare - 1)
-stored-placed nodes st spare code s seats seated absent all =
+pub stored-placed : (nodes : List NodeInfo) (st : State) (code : Code) (s : StripeNo) (seats : List Seat) → AreSeated nodes st → has_stripe st s ≡ false
+    → length seats ≡ length (fragments code) → stored.with_homes (stored_of nodes st) code s seats ≡ stored_of nodes (with_placed st code s seats)
+stored-placed nodes st code s seats seated absent all =
     let added = held_at s (fragments code) seats in
-    ap (λ (t : Stored). record t { homes = λ r n. if same_stripe s r then slice_get seats n else homes_of st.homes r n }) (stored-stripe nodes st spare s code seated absent)
-    ∙ same_homes (stored_of nodes (with_placed st code s seats) (spare - 1)) _ (λ r. homes_of (with_placed st code s seats).homes r)
+    ap (λ (t : Stored). record t { homes = λ r n. if same_stripe s r then slice_get seats n else homes_of st.homes r n }) (stored-stripe nodes st s code seated absent)
+    ∙ same_homes (stored_of nodes (with_placed st code s seats)) _ (λ r. homes_of (with_placed st code s seats).homes r)
     (λ r n. elim (cases_Bool (eqb s.value r.value)) [
       | inl same ↦
           let own : s ≡ r = equal_stripes s r (eqb-true s.value r.value same) in

@@ -10,11 +10,11 @@ use Rattle.lrc_topology.specs.declared.NodeInfo.{NodeInfo}
 use Rattle.lrc_topology.specs.declared.seat.Seat.{Seat}
 use Rattle.lrc_topology.specs.Nodes.{node_at}
 use Rattle.lrc_homes.specs.declared.home_domains.HomeDomains.{HomeDomains}
-use Rattle.lrc_homes.specs.Domains.{AreDomainsOf}
+use Rattle.lrc_homes.specs.Domains.{AreDomainsOf, AreDomainsKept}
 use Rattle.lrc_terms.specs.declared.lease.Lease.{Lease}
-use Rattle.lrc_terms.specs.Leased.{Leased, is_of, empty, with_lease, without_lease, with_spare}
+use Rattle.lrc_terms.specs.Leased.{Leased, is_of, empty, with_lease, without_lease}
 use Rattle.lrc_rows.proofs.DomainLemmas.{domains-with}
-use Rattle.lrc_store.specs.Stores.{targets_in, AreTargetDomains}
+use Rattle.lrc_store.specs.Stores.{targets_in}
 
 abbrev target : Lease → Seat
 target l = l.target
@@ -27,7 +27,7 @@ has-target (Some l) = refl
 module _ (nodes : List NodeInfo) (t : Leased) (list : List HomeDomains) where
   -- each lease is one that was
   pub targets-within : (u : Leased) → ((s : StripeNo) (f : ℕ) (l : Lease) → u.leases s f ≡ Some l → t.leases s f ≡ Some l)
-      → AreTargetDomains nodes t list → AreTargetDomains nodes u list
+      → AreDomainsKept nodes (targets_in t) list → AreDomainsKept nodes (targets_in u) list
   targets-within u within kept = record {
     long = kept.long;
     each = λ s d f seat n is at. kept.each s d f seat n (by s f seat (u.leases s f) refl is) at;
@@ -37,31 +37,27 @@ module _ (nodes : List NodeInfo) (t : Leased) (list : List HomeDomains) where
     by s f seat (Some l) there is = ap (option_map target) (within s f l there) ∙ is
 
   -- the lease of one fragment is gone
-  pub targets-without : (s : StripeNo) (f : Fragment) (u : Leased) (spare : ℕ) → u ≡ with_spare (without_lease t s f) spare → AreTargetDomains nodes t list → AreTargetDomains nodes u list
-  targets-without s f u spare is = targets-within u (λ r g l there.
+  pub targets-without : (s : StripeNo) (f : Fragment) (u : Leased) → u ≡ without_lease t s f → AreDomainsKept nodes (targets_in t) list → AreDomainsKept nodes (targets_in u) list
+  targets-without s f u is = targets-within u (λ r g l there.
       left (same_stripe s r && nat_eq f.value g) (t.leases r g) l (sym (ap (λ (x : Leased). x.leases r g) is) ∙ there)) where
         left : (b : Bool) (o : Option Lease) (l : Lease) → cond b None o ≡ Some l → o ≡ Some l
         left true o l e = absurd (cc)
         left false o l e = e
 
-  -- there is room for more
-  pub targets-spare : (u : Leased) (spare : ℕ) → u ≡ with_spare t spare → AreTargetDomains nodes t list → AreTargetDomains nodes u list
-  targets-spare u spare is = targets-within u (λ r g l there. sym (ap (λ (x : Leased). x.leases r g) is) ∙ there)
-
   -- there is no lease
-  pub targets-none : t ≡ empty → length list ≡ 4096 → AreTargetDomains nodes t list
+  pub targets-none : t ≡ empty → length list ≡ 4096 → AreDomainsKept nodes (targets_in t) list
   targets-none is long = record {
     long = long;
     each = λ s d f seat n there at. absurd (let clash : ◌≡◌ {A = Option Seat} None (Some seat) = sym (ap (λ (x : Leased). option_map target (x.leases s f)) is) ∙ there in cc);
   }
 
-  module _ (l : Lease) (kept : AreTargetDomains nodes t list) where
+  module _ (l : Lease) (kept : AreDomainsKept nodes (targets_in t) list) where
     -- another fragment has the target that it had
     other-target : (s : StripeNo) (f : ℕ) → is_of s f l ≡ false → targets_in (with_lease t l) s f ≡ targets_in t s f
     other-target s f other = ap (λ (b : Bool). option_map target (cond b (Some l) (t.leases s f))) other
 
     -- one more lease, on a node that is not there
-    pub targets-nowhere : node_at nodes l.target.node ≡ None → AreTargetDomains nodes (with_lease t l) list
+    pub targets-nowhere : node_at nodes l.target.node ≡ None → AreDomainsKept nodes (targets_in (with_lease t l)) list
     targets-nowhere gone = record {
       long = kept.long;
       each = λ s d f seat n is at. by s d f seat n (is_of s f l) refl is at;
@@ -77,7 +73,7 @@ module _ (nodes : List NodeInfo) (t : Leased) (list : List HomeDomains) where
     -- one more lease, with the domains of its target's node
     pub targets-with : (m : NodeInfo) → node_at nodes l.target.node ≡ Some m → (was put : HomeDomains) → was ≡ get_or list l.stripe.value was
         → put.faults ≡ set was.faults l.fragment.value m.fault.value → put.upgrades ≡ set was.upgrades l.fragment.value m.upgrade.value
-        → AreTargetDomains nodes (with_lease t l) (set list l.stripe.value put)
+        → AreDomainsKept nodes (targets_in (with_lease t l)) (set list l.stripe.value put)
     targets-with m found was put here faults upgrades = record {
       long = length-set list l.stripe.value put ∙ kept.long;
       each = λ s d f seat n is at. elim (cases_eq l.stripe.value s.value) [

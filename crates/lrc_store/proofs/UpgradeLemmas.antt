@@ -1,5 +1,5 @@
 -- The commands on upgrade domains: what their replies tell, and which stripe an upgrade would lose.
-use Rattle.std.proofs.Common.{◌≡◌, ℕ, arith, Bool, true, false, not, ◌&&◌, nat_lt, eqb, List, filter, Option, Some, None, IsFalse, refl, sym, ap, ap₂, ◌∙◌, inl, inr}
+use Rattle.std.proofs.Common.{◌≡◌, arith, Bool, true, false, not, ◌&&◌, nat_lt, eqb, List, filter, Option, Some, None, IsFalse, refl, sym, ap, ap₂, ◌∙◌, inl, inr}
 use Rattle.std.specs.List.{Contains}
 use Rattle.std.specs.Option.{option_eq}
 use Rattle.std.proofs.lemmas.Bool.{cases_Bool, eq-eqb, and_parts, ltb-true, ltb-false, lt-ltb, false_from_ne_true}
@@ -78,11 +78,11 @@ module _ (nodes : List NodeInfo) (st : State) (u : UpgradeNo) where
 
   -- ---- the stripe that it would lose
 
-  pub lost-as : st.upgrading ≡ None → (spare : ℕ) (s : StripeNo)
-      → upgrades.is_lost_to (stored_of nodes st spare) u s ≡ (has_stripe st s && is_lost_to nodes st u s)
+  pub lost-as : st.upgrading ≡ None → (s : StripeNo)
+      → upgrades.is_lost_to (stored_of nodes st) u s ≡ (has_stripe st s && is_lost_to nodes st u s)
   unfolding upgrades.is_lost_to
-  lost-as none spare s =
-      ap (λ (t : Stored). has_stripe st s && (upgrades.is_recoverable_now (stored_of nodes st spare) s && not (upgrades.is_recoverable_now t s))) (domain-out nodes st u none spare)
+  lost-as none s =
+      ap (λ (t : Stored). has_stripe st s && (upgrades.is_recoverable_now (stored_of nodes st) s && not (upgrades.is_recoverable_now t s))) (domain-out nodes st u none)
       ∙ ap₂ (λ (now later : NodeNo → Bool). has_stripe st s && (is_recoverable (code_of st s) (missing_in (code_of st s) now (homes_of st.homes s)) && not (is_recoverable (code_of st s) (missing_in (code_of st s) later (homes_of st.homes s)))))
       (online-kept nodes st) (online-kept nodes (with_upgrading st u))
 
@@ -93,10 +93,10 @@ module _ (nodes : List NodeInfo) (st : State) (u : UpgradeNo) where
       equal_stripes a b (omega (arith, low, high))
 
   -- the least stripe that is told is the one
-  pub lost-first : st.upgrading ≡ None → (spare : ℕ) (s : StripeNo) → IsFirstLostTo (stored_of nodes st spare) u s → would_lose nodes st u ≡ Some s
+  pub lost-first : st.upgrading ≡ None → (s : StripeNo) → IsFirstLostTo (stored_of nodes st) u s → would_lose nodes st u ≡ Some s
   unfolding would_lose
-  lost-first none spare s told =
-      let parts = and_parts (has_stripe st s) (is_lost_to nodes st u s) (sym (lost-as none spare s) ∙ told.lost) in
+  lost-first none s told =
+      let parts = and_parts (has_stripe st s) (is_lost_to nodes st u s) (sym (lost-as none s) ∙ told.lost) in
       least-only (λ (s t : StripeNo). nat_lt s.value t.value) (IsStrictWeakOrder-by_number (λ (s : StripeNo). s.value)) s
       (filter (is_lost_to nodes st u) st.stripes) no-ties
       (member-filter (is_lost_to nodes st u) st.stripes s (stripe-there st s parts.0) parts.1)
@@ -109,38 +109,38 @@ module _ (nodes : List NodeInfo) (st : State) (u : UpgradeNo) where
         | inl hit ↦ absurd (
             let there : has_stripe st r ≡ true = list_any-member (λ (t : StripeNo). eqb r.value t.value) st.stripes r h.0
             (eq-eqb r.value r.value refl) in
-            let lost : upgrades.is_lost_to (stored_of nodes st spare) u r ≡ true = lost-as none spare r ∙ rw (there, h.1) refl in
+            let lost : upgrades.is_lost_to (stored_of nodes st) u r ≡ true = lost-as none r ∙ rw (there, h.1) refl in
             let both : true ≡ false = sym lost ∙ told.first r (ltb-true r.value s.value hit) in cc)
       ]
 
   -- and the one that is told is the least
-  pub first-lost : st.upgrading ≡ None → (spare : ℕ) (s : StripeNo) → would_lose nodes st u ≡ Some s → IsFirstLostTo (stored_of nodes st spare) u s
+  pub first-lost : st.upgrading ≡ None → (s : StripeNo) → would_lose nodes st u ≡ Some s → IsFirstLostTo (stored_of nodes st) u s
   unfolding would_lose
-  first-lost none spare s told =
+  first-lost none s told =
       let before : StripeNo → StripeNo → Bool = λ r t. nat_lt r.value t.value in
       let listed = filter (is_lost_to nodes st u) st.stripes in
       let h = filter-member (is_lost_to nodes st u) st.stripes s (least-listed before s listed told) in
       let there : has_stripe st s ≡ true = list_any-member (λ (t : StripeNo). eqb s.value t.value) st.stripes s h.0 (eq-eqb s.value s.value refl) in
       let none_before = least-none_before before (IsStrictWeakOrder-by_number (λ (t : StripeNo). t.value)) s listed told in
       record {
-        lost = lost-as none spare s ∙ rw (there, h.1) refl;
-        first = λ r lower. false_from_ne_true (upgrades.is_lost_to (stored_of nodes st spare) u r) (λ lost.
-            let parts = and_parts (has_stripe st r) (is_lost_to nodes st u r) (sym (lost-as none spare r) ∙ lost) in
+        lost = lost-as none s ∙ rw (there, h.1) refl;
+        first = λ r lower. false_from_ne_true (upgrades.is_lost_to (stored_of nodes st) u r) (λ lost.
+            let parts = and_parts (has_stripe st r) (is_lost_to nodes st u r) (sym (lost-as none r) ∙ lost) in
             let among = member-filter (is_lost_to nodes st u) st.stripes r (stripe-there st r parts.0) parts.1 in
             let after = All-contains (λ (y : StripeNo). nat_lt y.value s.value ≡ false) listed r none_before among in
             let both : true ≡ false = sym (lt-ltb r.value s.value lower) ∙ after in cc);
       }
 
   -- where there is none, none is
-  pub lost-none : st.upgrading ≡ None → (spare : ℕ) → ((s : StripeNo) → IsFalse (upgrades.is_lost_to (stored_of nodes st spare) u s))
+  pub lost-none : st.upgrading ≡ None → ((s : StripeNo) → IsFalse (upgrades.is_lost_to (stored_of nodes st) u s))
       → would_lose nodes st u ≡ None
   unfolding would_lose
-  lost-none none spare told = go (least (λ (s t : StripeNo). nat_lt s.value t.value) (filter (is_lost_to nodes st u) st.stripes)) refl where
+  lost-none none told = go (least (λ (s t : StripeNo). nat_lt s.value t.value) (filter (is_lost_to nodes st u) st.stripes)) refl where
     go : (o : Option StripeNo) → least (λ (s t : StripeNo). nat_lt s.value t.value) (filter (is_lost_to nodes st u) st.stripes) ≡ o → o ≡ None
     go None e = refl
     go (Some r) e = absurd (
         let h = filter-member (is_lost_to nodes st u) st.stripes r
         (least-listed (λ (s t : StripeNo). nat_lt s.value t.value) r (filter (is_lost_to nodes st u) st.stripes) e) in
         let there : has_stripe st r ≡ true = list_any-member (λ (t : StripeNo). eqb r.value t.value) st.stripes r h.0 (eq-eqb r.value r.value refl) in
-        let lost : upgrades.is_lost_to (stored_of nodes st spare) u r ≡ true = lost-as none spare r ∙ rw (there, h.1) refl in
+        let lost : upgrades.is_lost_to (stored_of nodes st) u r ≡ true = lost-as none r ∙ rw (there, h.1) refl in
         let both : true ≡ false = sym lost ∙ told r in cc)

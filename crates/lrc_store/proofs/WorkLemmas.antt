@@ -121,9 +121,9 @@ paired levels (r ∷ rows) all = ap₂ (λ (l : Level) (rest : List StripeLevel)
 
 -- ---- what is kept
 
-module _ (nodes : List NodeInfo) (st : State) (spare : ℕ) where
+module _ (nodes : List NodeInfo) (st : State) where
   abbrev kept : Stored
-  kept = stored_of nodes st spare
+  kept = stored_of nodes st
 
   abbrev needed : StripeNo → ℕ → Bool
   needed s = needs_in (code_of st s) (drains_at nodes st) (homes_of st.homes s)
@@ -139,7 +139,7 @@ module _ (nodes : List NodeInfo) (st : State) (spare : ℕ) where
   pub has-work : (s : StripeNo) → Contains st.stripes s → has_work nodes st s ≡ true → stripe_has_work kept s ≡ true
   has-work s there has =
       let listed = list_any-member (same_stripe s) st.stripes s there (eq-eqb s.value s.value refl) in
-      work-kept nodes st spare s ∙ and_from (has_stripe st s) (has_some (code_of st s) (needed s)) listed (needed-some s has)
+      work-kept nodes st s ∙ and_from (has_stripe st s) (has_some (code_of st s) (needed s)) listed (needed-some s has)
 
   pub granted-works : (p : StripeFragment) → is_grantable nodes st p ≡ true → has_work nodes st p.0 ≡ true
   granted-works p e =
@@ -185,7 +185,7 @@ module _ (nodes : List NodeInfo) (st : State) (spare : ℕ) where
 
     shown-is : (s : StripeNo) (there : Bool) → has_stripe st s ≡ there → level_shown kept s ≡ (if there then Some (level nodes st s) else None)
     unfolding level_if shown-by
-    shown-is s there e = level-kept nodes st spare s ∙ ap (λ b. shown-by b s) e
+    shown-is s there e = level-kept nodes st s ∙ ap (λ b. shown-by b s) e
 
     shown-some : (s : StripeNo) (l : Level) (there : Bool) → has_stripe st s ≡ there → level_shown kept s ≡ Some l
         → Contains st.stripes s × (level nodes st s ≡ l)
@@ -209,7 +209,7 @@ module _ (nodes : List NodeInfo) (st : State) (spare : ℕ) where
         strict-in_order (comes_first ranks) (stripe-order ranks) (stripe-ties ranks) (filter is_risky st.stripes) (map (λ r. r.0) rows)
         (AllPairs-filter (λ s t. s ≢ t) is_risky st.stripes distinct)
         (AllPairs-map (λ s t. comes_first ranks s t ≡ true) (λ (r : StripeLevel). r.0) rows
-        (subst (λ (by : StripeNo → ℕ). AllPairs (λ r t. comes_first by r.0 t.0 ≡ true) rows) (rank-kept nodes st spare) are.rising))
+        (subst (λ (by : StripeNo → ℕ). AllPairs (λ r t. comes_first by r.0 t.0 ≡ true) rows) (rank-kept nodes st) are.rising))
         (λ s here.
         let at = filter-member is_risky st.stripes s here in
         map-member (λ (r : StripeLevel). r.0) rows (s, level nodes st s) (risk-from s at.0 at.1))

@@ -1,5 +1,5 @@
--- What a book keeps of a state, and the room that it has.
-use Rattle.std.specs.Prelude.{◌≡◌, ◌≢◌, ◌<◌, ℕ, Bool, ◌&&◌, true, false, if◌then◌else◌, nat_le, List, length, get_or, map, All, Option, Some, None, option_map, IsTrue}
+-- What a book keeps of a state.
+use Rattle.std.specs.Prelude.{◌≡◌, ◌≢◌, ◌<◌, ℕ, true, false, if◌then◌else◌, List, map, All, Option, Some, None, option_map, IsTrue}
 use Rattle.lrc_code.specs.declared.numbers.StripeNo.{StripeNo}
 use Rattle.lrc_code.specs.declared.numbers.NodeNo.{NodeNo}
 use Rattle.lrc_code.specs.declared.numbers.Fragment.{Fragment}
@@ -8,8 +8,7 @@ use Rattle.lrc_topology.specs.declared.NodeInfo.{NodeInfo}
 use Rattle.lrc_topology.specs.Nodes.{AreNodes}
 use Rattle.lrc_slots.specs.Tables.{slots_of}
 use Rattle.lrc_terms.specs.Levels.{Homes, homes_of}
-use Rattle.lrc_homes.specs.declared.home_domains.HomeDomains.{HomeDomains}
-use Rattle.lrc_homes.specs.Domains.{AreDomainsOf}
+use Rattle.lrc_homes.specs.Domains.{AreDomainsKept}
 use Rattle.lrc_nodes.specs.declared.node_state.NodeState.{NodeState}
 use Rattle.lrc_stripes.specs.Stored.{Stored}
 use Rattle.lrc_stripes.specs.Tables.{stored_in}
@@ -31,25 +30,19 @@ use Rattle.lrc_bars.specs.Ties.{kept_table}
 abbrev pub node_state : State → NodeInfo → NodeState
 node_state st n = record { node = n; mode = mode_of st n.number; is_down = is_down st n.number; is_upgrading = is_upgrading st n }
 
--- the nodes with their states, the stripes, codes and homes of the state, with room for `spare` more stripes
-abbrev pub stored_of : List NodeInfo → State → ℕ → Stored
-stored_of nodes st spare =
+-- the nodes with their states, the stripes, codes and homes of the state
+abbrev pub stored_of : List NodeInfo → State → Stored
+stored_of nodes st =
     record {
       nodes = map (node_state st) nodes;
       stripes = has_stripe st;
       code = code_of st;
       homes = λ s. homes_of st.homes s;
-      spare = spare;
     }
 
 -- the targets of a stripe's leases, by the numbers of fragments
 abbrev pub targets_in : Leased → StripeNo → Homes
 targets_in t s f = option_map (λ l. l.target) (t.leases s f)
-
--- there is an entry for each stripe number, with the domains of the nodes of its leases' targets
-pub record AreTargetDomains (nodes : List NodeInfo) (t : Leased) (list : List HomeDomains) : Type 0 where
-  pub long : length list ≡ 4096
-  pub each : (s : StripeNo) (d : HomeDomains) → AreDomainsOf nodes (targets_in t s) (get_or list s.value d)
 
 -- what is kept is that of a state over these nodes, whose stripes are seated, and none of whose nodes is both gone and draining
 pub record IsOf (st : State) (s : Store) : Type 0 where
@@ -57,19 +50,15 @@ pub record IsOf (st : State) (s : Store) : Type 0 where
   pub seated : AreSeated s.topology st
   pub apart : (n : NodeNo) → has_number st.gone n ≡ true → has_number st.draining n ≡ false
   pub table_is : slots_of s.table ≡ kept_table s.topology st
-  pub stripes_is : stored_in s.stripes ≡ stored_of s.topology st (stored_in s.stripes).spare
-  pub leases_is : leased_in s.leases ≡ leased_of st.leases (leased_in s.leases).spare
-  pub domains_are : AreTargetDomains s.topology (leased_in s.leases) s.target_domains.items
+  pub stripes_is : stored_in s.stripes ≡ stored_of s.topology st
+  pub leases_is : leased_in s.leases ≡ leased_of st.leases 0
+  pub domains_are : AreDomainsKept s.topology (targets_in (leased_in s.leases)) s.target_domains.items
   pub upgrading_is : s.upgrading ≡ st.upgrading
   pub clock_is : s.clock.value ≡ st.clock
 
 -- this is the store of some state
 abbrev pub IsTied : Store → Type 0
 IsTied s = (st : State) × IsOf st s
-
--- there is room for one more command of any kind
-abbrev pub has_room : Store → Bool
-has_room s = nat_le 1 (stored_in s.stripes).spare && nat_le 1 (leased_in s.leases).spare
 
 -- the stripe is there, its code has the fragment, which has no lease, and the new one's target is chosen for it
 pub record IsGrant (nodes : List NodeInfo) (st : State) (lease : Lease) : Type 0 where

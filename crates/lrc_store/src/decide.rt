@@ -10,7 +10,7 @@ ghost use Rattle.lrc_rules.specs.States.{State};
 ghost use Rattle.lrc_rules.specs.Steps.{step};
 ghost use Rattle.lrc_answers.specs.Answers.{told, is_place};
 ghost use Rattle.lrc_rules.specs.Changes.{IsAnswer, changed_by, grants_lease};
-ghost use Rattle.lrc_store.specs.Stores.{IsOf, IsTied, AreGrantsOf, AreFew, has_room};
+ghost use Rattle.lrc_store.specs.Stores.{IsOf, IsTied, AreGrantsOf, AreFew};
 ghost use Rattle.lrc_store.specs.Repairing.{IsRepairCursor, HasRepairCursor};
 
 use crate::cursor::RepairCursor;
@@ -94,13 +94,11 @@ impl Store {
     }
 
     /// Makes the change of a command after any answer but a grant. Requires that the answer is the
-    /// one in this state, and that there is room, so nothing fails. The store is then that of the
-    /// state after the command.
+    /// one in this state. Nothing fails. The store is then that of the state after the command.
     #[inline(always)] // so that the change itself is the only call
     pub fn make_change(&mut self, command: &Command, answer: &Answer)
         ghost st: { State }
         requires kept { IsOf st self.old }
-        requires room { has_room self.old ≡ true }
         requires told { (past : List Entry) × (session : SessionNo) × ((step self.old.topology past st session command.now).0 ≡ told answer.now) }
         requires other { (lease : Lease) (kind : Kind) → answer.now ≢ Granted lease kind }
         requires early { self.old.clock.value < 4294967292 }
@@ -116,7 +114,6 @@ impl Store {
     fn change_by(&mut self, command: &Command, answer: &Answer)
         ghost st: { State }
         requires kept { IsOf st self.old }
-        requires room { has_room self.old ≡ true }
         requires told { IsAnswer self.old.topology st command.now (told answer.now) }
         requires other { grants_lease command.now (told answer.now) ≡ false }
         requires early { self.old.clock.value < 4294967292 }

@@ -1,6 +1,6 @@
 //! Laws of upgrades. The functions do nothing. Their contracts are theorems about the states of a store.
 
-ghost use Rattle.std.specs.Prelude.{◌≡◌, ◌↔◌, ℕ, IsTrue, List, None, Some};
+ghost use Rattle.std.specs.Prelude.{◌≡◌, ◌↔◌, IsTrue, List, None, Some};
 ghost use Rattle.lrc_code.specs.declared.numbers.StripeNo.{StripeNo};
 ghost use Rattle.lrc_code.specs.declared.numbers.UpgradeNo.{UpgradeNo};
 ghost use Rattle.lrc_topology.specs.declared.NodeInfo.{NodeInfo};
@@ -14,13 +14,13 @@ ghost use Rattle.lrc_store.specs.Stores.{stored_of};
 /// lowest of all that it would lose, and is exactly the one for which the rules refuse the upgrade. The seats of the state are
 /// in order, and no domain is upgrading.
 pub fn only_short_stripes_are_lost_to_upgrades()
-    ensures short { (nodes : List NodeInfo) (st : State) (spare : ℕ) (u : UpgradeNo) (s : StripeNo)
+    ensures short { (nodes : List NodeInfo) (st : State) (u : UpgradeNo) (s : StripeNo)
         → AreSeated nodes st → st.upgrading ≡ None
-        → IsTrue (is_lost_to (stored_of nodes st spare) u s) → IsTrue (is_short (stored_of nodes st spare) u s) }
-    ensures first { (nodes : List NodeInfo) (st : State) (spare : ℕ) (u : UpgradeNo) (s : StripeNo)
+        → IsTrue (is_lost_to (stored_of nodes st) u s) → IsTrue (is_short (stored_of nodes st) u s) }
+    ensures first { (nodes : List NodeInfo) (st : State) (u : UpgradeNo) (s : StripeNo)
         → AreSeated nodes st → st.upgrading ≡ None
-        → IsFirstShortLostTo (stored_of nodes st spare) u s ↔ IsFirstLostTo (stored_of nodes st spare) u s }
-    ensures refused { (nodes : List NodeInfo) (st : State) (spare : ℕ) (u : UpgradeNo) (s : StripeNo)
+        → IsFirstShortLostTo (stored_of nodes st) u s ↔ IsFirstLostTo (stored_of nodes st) u s }
+    ensures refused { (nodes : List NodeInfo) (st : State) (u : UpgradeNo) (s : StripeNo)
         → AreSeated nodes st → st.upgrading ≡ None
-        → IsFirstShortLostTo (stored_of nodes st spare) u s ↔ (would_lose nodes st u ≡ Some s) }
+        → IsFirstShortLostTo (stored_of nodes st) u s ↔ (would_lose nodes st u ≡ Some s) }
 {}

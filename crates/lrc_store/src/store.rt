@@ -6,7 +6,7 @@ ghost use Rattle.lrc_stripes.specs.Stored as stored;
 ghost use Rattle.lrc_stripes.specs.Tables.{stored_in};
 ghost use Rattle.lrc_rules.specs.States.{State, opening, code_of};
 ghost use Rattle.lrc_rules.specs.Leases.{without_lease, without_home};
-ghost use Rattle.lrc_store.specs.Stores.{IsOf, IsTied, has_room};
+ghost use Rattle.lrc_store.specs.Stores.{IsOf, IsTied};
 ghost use Rattle.lrc_bars.specs.Ties.{kept_table};
 
 use crate::clock::Clock;
@@ -16,9 +16,6 @@ use lrc_slots::SlotTable;
 use lrc_stripes::{HomeDomains, Stripes};
 use lrc_topology::Topology;
 use std::alloc::Global;
-
-/// The number of stripes and leases that memory is reserved for at once, so that it is seldom reserved.
-const MORE: u32 = 16;
 
 /// The state of a book: the taken slots; the nodes with their states and the homes of fragments; the live leases, with the
 /// domains of their targets; the upgrade domain that is upgrading; and the clock. Contracts speak of its fields.
@@ -35,7 +32,8 @@ pub struct Store {
 }
 
 impl Store {
-    /// No stripes, every node active and not down, and no domain upgrading.
+    /// No stripes, every node active and not down, and no domain upgrading. Allocates for all stripes and leases, so that no later
+    /// call allocates.
     pub fn new(alloc: Global, topology: Topology) -> Result<Store, Fault>
         ensures value { IfOk result (λ s. (s.topology ≡ topology) × IsOf opening s) }
         ensures err { IfErr result (λ e. e ≡ fault.OutOfMemory) }
@@ -52,36 +50,6 @@ impl Store {
             upgrading: None,
             clock: Clock::new(),
         })
-    }
-
-    /// Makes room for one more command of any kind, and changes nothing else. Today this allocates nothing: `new` allocates
-    /// for all stripes and leases.
-    ///
-    /// # Errors
-    ///
-    /// None today. Tables that grow would return `Fault::OutOfMemory`.
-    pub fn reserve(&mut self) -> Result<(), Fault>
-        ensures nodes { self.new.topology ≡ self.old.topology }
-        ensures same { (st : State) → IsOf st self.old → IsOf st self.new }
-        ensures ok { OnOk result (has_room self.new ≡ true) }
-        ensures kept { has_room self.old ≡ true → has_room self.new ≡ true }
-        ensures enough { has_room self.old ≡ true → IsOk result }
-        ensures always { IsOk result }
-        ensures err { IfErr result (λ e. e ≡ fault.OutOfMemory) }
-    {
-        if self.has_room() {
-            return Ok(());
-        }
-        self.stripes.reserve(MORE)?;
-        self.leases.reserve(MORE)?;
-        Ok(())
-    }
-
-    /// Whether there is room for one more command of any kind.
-    fn has_room(&self) -> bool
-        ensures { result ≡ has_room self.now }
-    {
-        self.stripes.spare() > 0 && self.leases.spare() > 0
     }
 
     /// The code of a stripe; `Wide` where there is no such stripe.

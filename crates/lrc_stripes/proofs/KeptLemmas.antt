@@ -17,9 +17,11 @@ use Rattle.lrc_topology.specs.declared.seat.Seat.{Seat}
 use Rattle.lrc_homes.specs.declared.losses.Losses.{Losses}
 use Rattle.lrc_rows.specs.declared.row.Row.{Row}
 use Rattle.lrc_homes.specs.Homes.{sits_on, is_missing, is_to_move}
-use Rattle.lrc_rows.specs.NodeStates.{NodeStates, first_states}
+use Rattle.lrc_nodes.specs.declared.node_state.NodeState.{NodeState}
+use Rattle.lrc_rows.specs.NodeStates.{NodeStates, NodeLists, states_in, first_states, AreUpgrading}
 use Rattle.lrc_homes.specs.Masks.{AreAll, AreLosses, AreKept, renewed, IsFull, IsPut, IsMaskOf}
-use Rattle.lrc_rows.specs.Kept.{AreWith, IsKept, is_row_on}
+use Rattle.lrc_homes.specs.Domains.{AreDomainsOf}
+use Rattle.lrc_rows.specs.Kept.{AreWith, IsKept, AreRowDomains, is_row_on}
 use Rattle.lrc_rows.specs.Listed.{row_code}
 use Rattle.lrc_rows.proofs.NodeStateLemmas.{or-false}
 use Rattle.lrc_homes.proofs.MaskLemmas.{has-low}
@@ -70,11 +72,11 @@ losses-bare code online draining homes l none all = record {
 }
 
 pub losses-with : (code : Code) (states : NodeStates) (homes : List (Option Seat)) (f : ℕ) (home : Option Seat) (before after : Losses) → has_fragment code f ≡ true → length homes ≡ 16
-    → AreLosses code states.online states.draining homes before → AreWith states f home before after → AreLosses code states.online states.draining (set homes f home) after
+    → AreLosses code states.up states.draining homes before → AreWith states f home before after → AreLosses code states.up states.draining (set homes f home) after
 losses-with code states homes f home before after within long are with = record {
   within = λ g lacks. get_or-set_other homes f g home None (λ same. let clash : true ≡ false = sym within ∙ (ap (has_fragment code) (sym same) ∙ lacks) in cc) ∙ are.within g lacks;
   homeless = mask-set code is_none homes f home before.homeless after.homeless within long are.homeless with.homeless;
-  missing = mask-set code (is_missing states.online) homes f home before.missing after.missing within long are.missing with.missing;
+  missing = mask-set code (is_missing states.up) homes f home before.missing after.missing within long are.missing with.missing;
   needs = mask-set code (is_to_move states.draining) homes f home before.needs after.needs within long are.needs with.needs;
 }
 
@@ -99,13 +101,17 @@ module _ (states : NodeStates) (rows : StripeNo → Option Row) (kept : IsKept s
   alike s same = equal_stripes stripe s (eqb-true _ _ same)
 
   pub kept-put : (o : Option Row) (on : NodeNo → StripeNo → Bool) (after : StripeNo → Option Row) → after ≡ (λ s. if same_stripe stripe s then o else rows s)
-      → ((r : Row) → o ≡ Some r → AreKept states.online states.draining r.homes r.losses)
+      → ((r : Row) → o ≡ Some r → AreKept states.up states.draining r.homes r.losses) → ((r : Row) → o ≡ Some r → AreRowDomains states.nodes r)
       → ((n : NodeNo) (s : StripeNo) → on n s ≡ (if same_stripe stripe s then is_row_on n o else states.on n s))
       → IsKept (record states { on = on }) after
-  kept-put o on after is losses listed = subst (λ (a : StripeNo → Option Row). IsKept (record states { on = on }) a) (sym is) (record {
+  kept-put o on after is losses domains listed = subst (λ (a : StripeNo → Option Row). IsKept (record states { on = on }) a) (sym is) (record {
     losses = λ s r e. elim (cases_Bool (same_stripe stripe s)) [
       | inl same ↦ losses r (rw same at e)
       | inr other ↦ kept.losses s r (rw other at e)
+    ];
+    domains = λ s r e. elim (cases_Bool (same_stripe stripe s)) [
+      | inl same ↦ domains r (rw same at e)
+      | inr other ↦ kept.domains s r (rw other at e)
     ];
     listed = λ n s. listed n s ∙ (elim (cases_Bool (same_stripe stripe s)) [
       | inl same ↦ rw same refl
@@ -128,19 +134,21 @@ module _ (states : NodeStates) (rows : StripeNo → Option Row) (kept : IsKept s
   pub kept-add : (r : Row) (after : StripeNo → Option Row) → is_some (rows stripe) ≡ false → r.homes ≡ replicate 16 None → AreAll r.losses.code r.losses
       → after ≡ (λ s. if same_stripe stripe s then Some r else rows s) → IsKept states after
   kept-add r after absent none all is = kept-put (Some r) states.on after is
-      (λ q e. subst (λ (x : Row). AreKept states.online states.draining x.homes x.losses) (same_Some r q e)
-      (loosened states.online states.draining r.homes r.losses (losses-bare r.losses.code states.online states.draining r.homes r.losses none all)))
+      (λ q e. subst (λ (x : Row). AreKept states.up states.draining x.homes x.losses) (same_Some r q e)
+      (loosened states.up states.draining r.homes r.losses (losses-bare r.losses.code states.up states.draining r.homes r.losses none all)))
+      (λ q e. subst (AreRowDomains states.nodes) (same_Some r q e) (λ f seat n home at. absurd (let clash : None ≡ Some seat = sym (ap (λ (hs : List (Option Seat)). get_or hs f None) none ∙ replicated 16 f None) ∙ home in cc)))
       (λ n s. elim (cases_Bool (same_stripe stripe s)) [
         | inl same ↦ rw same (own-on n s same ∙ no-row n (rows stripe) absent ∙ sym (ap (list_any (sits_on n)) none ∙ any-bare n 16))
         | inr other ↦ rw other refl
       ])
 
   -- a row with homes, on whose nodes the stripe is now
-  pub kept-enter : (homes : List (Option Seat)) (r : Row) (after : StripeNo → Option Row) → is_some (rows stripe) ≡ false → r.homes ≡ homes → AreLosses r.losses.code states.online states.draining homes r.losses
-      → after ≡ (λ s. if same_stripe stripe s then Some r else rows s) → IsKept (record states { on = λ n s. (same_stripe stripe s && list_any (sits_on n) homes) || states.on n s }) after
-  kept-enter homes r after absent own are is = kept-put (Some r) (λ n s. (same_stripe stripe s && list_any (sits_on n) homes) || states.on n s) after is
-      (λ q e. subst (λ (x : Row). AreKept states.online states.draining x.homes x.losses) (same_Some r q e)
-      (loosened states.online states.draining r.homes r.losses (subst (λ (hs : List (Option Seat)). AreLosses r.losses.code states.online states.draining hs r.losses) (sym own) are)))
+  pub kept-enter : (homes : List (Option Seat)) (r : Row) (after : StripeNo → Option Row) → is_some (rows stripe) ≡ false → r.homes ≡ homes → AreLosses r.losses.code states.up states.draining homes r.losses
+      → AreDomainsOf states.nodes (λ f. get_or homes f None) r.domains → after ≡ (λ s. if same_stripe stripe s then Some r else rows s) → IsKept (record states { on = λ n s. (same_stripe stripe s && list_any (sits_on n) homes) || states.on n s }) after
+  kept-enter homes r after absent own are domains is = kept-put (Some r) (λ n s. (same_stripe stripe s && list_any (sits_on n) homes) || states.on n s) after is
+      (λ q e. subst (λ (x : Row). AreKept states.up states.draining x.homes x.losses) (same_Some r q e)
+      (loosened states.up states.draining r.homes r.losses (subst (λ (hs : List (Option Seat)). AreLosses r.losses.code states.up states.draining hs r.losses) (sym own) are)))
+      (λ q e. subst (AreRowDomains states.nodes) (same_Some r q e) (subst (λ (hs : List (Option Seat)). AreDomainsOf states.nodes (λ f. get_or hs f None) r.domains) (sym own) domains))
       (λ n s. elim (cases_Bool (same_stripe stripe s)) [
         | inl same ↦ rw (same, own-on n s same ∙ no-row n (rows stripe) absent) (or-false (list_any (sits_on n) homes) ∙ ap (list_any (sits_on n)) (sym own))
         | inr other ↦ rw other refl
@@ -150,13 +158,14 @@ module _ (states : NodeStates) (rows : StripeNo → Option Row) (kept : IsKept s
     here-on : (n : NodeNo) (s : StripeNo) → same_stripe stripe s ≡ true → states.on n s ≡ list_any (sits_on n) r.homes
     here-on n s same = own-on n s same ∙ ap (is_row_on n) found
 
-    here-losses : AreKept states.online states.draining r.homes r.losses
+    here-losses : AreKept states.up states.draining r.homes r.losses
     here-losses = kept.losses stripe r found
 
     -- no row
     pub kept-remove : (after : StripeNo → Option Row) → after ≡ (λ s. if same_stripe stripe s then None else rows s)
         → IsKept (record states { on = λ n s. not (same_stripe stripe s && list_any (sits_on n) r.homes) && states.on n s }) after
     kept-remove after is = kept-put None (λ n s. not (same_stripe stripe s && list_any (sits_on n) r.homes) && states.on n s) after is
+        (λ q e. absurd (let f : None ≡ Some q = e in cc))
         (λ q e. absurd (let f : None ≡ Some q = e in cc))
         (λ n s. elim (cases_Bool (same_stripe stripe s)) [
           | inl same ↦ rw (same, here-on n s same) (gone (list_any (sits_on n) r.homes))
@@ -180,25 +189,26 @@ module _ (states : NodeStates) (rows : StripeNo → Option Row) (kept : IsKept s
       many : f < length r.homes
       many = let all = r.sixteen in let few = has-low r.losses.code f low in omega (arith, few, all)
 
-      rehomed : (home : Option Seat) (before : Losses) → before.code ≡ r.losses.code → AreLosses r.losses.code states.online states.draining r.homes before → q.homes ≡ set r.homes f home → AreWith states f home before q.losses
-          → (x : Row) → Some q ≡ Some x → AreKept states.online states.draining x.homes x.losses
+      rehomed : (home : Option Seat) (before : Losses) → before.code ≡ r.losses.code → AreLosses r.losses.code states.up states.draining r.homes before → q.homes ≡ set r.homes f home → AreWith states f home before q.losses
+          → (x : Row) → Some q ≡ Some x → AreKept states.up states.draining x.homes x.losses
       rehomed home before coded are homes with x e =
-          subst (λ (y : Row). AreKept states.online states.draining y.homes y.losses) (same_Some q x e)
-          (loosened states.online states.draining q.homes q.losses
-          (subst (λ (hs : List (Option Seat)). AreLosses q.losses.code states.online states.draining hs q.losses) (sym homes)
-          (subst (λ (code : Code). AreLosses code states.online states.draining (set r.homes f home) q.losses) (sym (with.code ∙ coded))
+          subst (λ (y : Row). AreKept states.up states.draining y.homes y.losses) (same_Some q x e)
+          (loosened states.up states.draining q.homes q.losses
+          (subst (λ (hs : List (Option Seat)). AreLosses q.losses.code states.up states.draining hs q.losses) (sym homes)
+          (subst (λ (code : Code). AreLosses code states.up states.draining (set r.homes f home) q.losses) (sym (with.code ∙ coded))
           (losses-with r.losses.code states r.homes f home before q.losses low r.sixteen are with))))
 
       -- another home, or none
-      pub kept-rehome : (home : Option Seat) (after : StripeNo → Option Row) → q.homes ≡ set r.homes f home → AreWith states f home (renewed states.online r.homes r.losses) q.losses
-          → after ≡ (λ s. if same_stripe stripe s then Some q else rows s)
+      pub kept-rehome : (home : Option Seat) (after : StripeNo → Option Row) → q.homes ≡ set r.homes f home → AreWith states f home (renewed states.up r.homes r.losses) q.losses
+          → AreRowDomains states.nodes q → after ≡ (λ s. if same_stripe stripe s then Some q else rows s)
           → IsKept (record states {
             on = λ n s. not (same_stripe stripe s && (sits_on n (get_or r.homes f None) && not (is_row_on n (after stripe))))
                 && ((same_stripe stripe s && sits_on n home) || states.on n s);
           }) after
-      kept-rehome home after homes with is = kept-put (Some q)
+      kept-rehome home after homes with domains is = kept-put (Some q)
           (λ n s. not (same_stripe stripe s && (sits_on n (get_or r.homes f None) && not (is_row_on n (after stripe)))) && ((same_stripe stripe s && sits_on n home) || states.on n s)) after is
-          (rehomed home (renewed states.online r.homes r.losses) refl (renewed-exact states.online states.draining r.homes r.losses here-losses) homes with)
+          (rehomed home (renewed states.up r.homes r.losses) refl (renewed-exact states.up states.up states.draining r.homes r.losses here-losses) homes with)
+          (λ x e. subst (AreRowDomains states.nodes) (same_Some q x e) domains)
           (λ n s. elim (cases_Bool (same_stripe stripe s)) [
             | inl same ↦
                 rw (same, here-on n s same)
@@ -225,5 +235,13 @@ pub kept-first : (nodes : List NodeInfo) (z : NodeStates) (rows : StripeNo → O
 kept-first nodes z rows at none =
     subst (λ (y : NodeStates). IsKept y rows) (sym at) (subst (λ (a : StripeNo → Option Row). IsKept (first_states nodes) a) (sym none) (record {
       losses = λ s r e. absurd (let f : None ≡ Some r = e in cc);
+      domains = λ s r e. absurd (let f : None ≡ Some r = e in cc);
       listed = λ n s. refl;
     }))
+
+-- the upgrading domains stay where the nodes do
+pub upgrading-stays : (t u : NodeLists) {on : NodeNo → StripeNo → Bool} → states_in u ≡ record (states_in t) { on = on } → (upgrading next : List Bool) → next ≡ upgrading → AreUpgrading t.list upgrading
+    → AreUpgrading u.list next
+unfolding states_in
+upgrading-stays t u is upgrading next same are =
+    subst (λ (xs : List NodeState). AreUpgrading xs next) (sym (ap (λ (z : NodeStates). z.list) is)) (subst (λ (b : List Bool). AreUpgrading t.list b) (sym same) are)

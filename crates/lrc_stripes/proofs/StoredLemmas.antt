@@ -15,7 +15,7 @@ use Rattle.lrc_topology.specs.declared.NodeInfo.{NodeInfo}
 use Rattle.lrc_topology.specs.declared.seat.Seat.{Seat}
 use Rattle.lrc_topology.specs.Nodes.{node_at}
 use Rattle.lrc_rows.specs.declared.row.Row.{Row}
-use Rattle.lrc_stripes.specs.Stored.{Stored, has_slot, empty, with_stripe, with_homes, without_stripe, with_home, with_spare}
+use Rattle.lrc_stripes.specs.Stored.{Stored, has_slot, empty, with_stripe, with_homes, without_stripe, with_home}
 use Rattle.lrc_rows.specs.NodeStates.{has_node, NodeStates, first_states, NodeLists}
 use Rattle.lrc_homes.specs.Homes.{seated_homes}
 use Rattle.lrc_rows.specs.Listed.{row_homes, row_code, rows_in}
@@ -26,19 +26,18 @@ use Rattle.lrc_terms.specs.Levels.{Homes}
 use Rattle.lrc_rows.specs.Kept.{AreSameStripes}
 
 -- the stored stripes that nodes and rows represent
-abbrev pub stored_by : NodeStates → (StripeNo → Option Row) → ℕ → Stored
-stored_by z rows spare = record {
+abbrev pub stored_by : NodeStates → (StripeNo → Option Row) → Stored
+stored_by z rows = record {
   nodes = z.list;
   stripes = λ s. is_some (rows s);
   code = λ s. row_code (rows s);
   homes = λ s. row_homes (rows s);
-  spare = spare;
 }
 
 -- ---- at first
 
-pub stored-first : (nodes : List NodeInfo) (z : NodeStates) (rows : StripeNo → Option Row) → z ≡ first_states nodes → rows ≡ (λ s. None) → stored_by z rows 0 ≡ empty nodes
-stored-first nodes z rows at none = ap₂ (λ (y : NodeStates) (a : StripeNo → Option Row). stored_by y a 0) at none
+pub stored-first : (nodes : List NodeInfo) (z : NodeStates) (rows : StripeNo → Option Row) → z ≡ first_states nodes → rows ≡ (λ s. None) → stored_by z rows ≡ empty nodes
+stored-first nodes z rows at none = ap₂ stored_by at none
 
 -- ---- one row changed
 
@@ -63,27 +62,27 @@ homes-chosen true o p f e = e
 homes-chosen false o p f e = refl
 
 module _ (z : NodeStates) (rows after : StripeNo → Option Row) (s : StripeNo) where
-  abbrev before : ℕ → Stored
-  before spare = stored_by z rows spare
+  abbrev before : Stored
+  before = stored_by z rows
 
   -- a stripe without homes added
-  pub stored-add : (code : Code) (r : Row) (spare : ℕ) → r.losses.code ≡ code → r.homes ≡ replicate 16 None → after ≡ (λ u. if same_stripe s u then Some r else rows u)
-      → stored_by z after (spare - 1) ≡ with_stripe (before spare) code s
-  stored-add code r spare coded bare is =
+  pub stored-add : (code : Code) (r : Row) → r.losses.code ≡ code → r.homes ≡ replicate 16 None → after ≡ (λ u. if same_stripe s u then Some r else rows u)
+      → stored_by z after ≡ with_stripe before code s
+  stored-add code r coded bare is =
       let no_homes : (f : ℕ) → row_homes (Some r) f ≡ None = λ f. ap (λ (hs : List (Option Seat)). get_or hs f None) bare ∙ replicated 16 f None in
-      ap (λ (a : StripeNo → Option Row). stored_by z a (spare - 1)) is
-      ∙ ap (λ (b : StripeNo → Bool). record (before spare) { stripes = b; code = λ u. row_code (if same_stripe s u then Some r else rows u); homes = λ u. row_homes (if same_stripe s u then Some r else rows u); spare = spare - 1 }) (fun_ext (λ u. stripes-added (same_stripe s u) (Some r) (rows u) refl))
-      ∙ ap (λ (h : StripeNo → ℕ → Option Seat). record (with_stripe (before spare) code s) { code = λ u. row_code (if same_stripe s u then Some r else rows u); homes = h }) (fun_ext (λ u. fun_ext (λ f. homes-chosen (same_stripe s u) (Some r) (rows u) f (no_homes f))))
-      ∙ ap (λ (c : StripeNo → Code). record (with_stripe (before spare) code s) { code = c }) (codes-put s rows (Some r) code coded)
+      ap (λ (a : StripeNo → Option Row). stored_by z a) is
+      ∙ ap (λ (b : StripeNo → Bool). record before { stripes = b; code = λ u. row_code (if same_stripe s u then Some r else rows u); homes = λ u. row_homes (if same_stripe s u then Some r else rows u) }) (fun_ext (λ u. stripes-added (same_stripe s u) (Some r) (rows u) refl))
+      ∙ ap (λ (h : StripeNo → ℕ → Option Seat). record (with_stripe before code s) { code = λ u. row_code (if same_stripe s u then Some r else rows u); homes = h }) (fun_ext (λ u. fun_ext (λ f. homes-chosen (same_stripe s u) (Some r) (rows u) f (no_homes f))))
+      ∙ ap (λ (c : StripeNo → Code). record (with_stripe before code s) { code = c }) (codes-put s rows (Some r) code coded)
 
   -- a stripe with homes on seats added
-  pub stored-seated : (code : Code) (r : Row) (seats : List Seat) (spare : ℕ) → r.losses.code ≡ code → r.homes ≡ seated_homes seats → after ≡ (λ u. if same_stripe s u then Some r else rows u)
-      → stored_by z after (spare - 1) ≡ with_homes (before spare) code s seats
-  stored-seated code r seats spare coded own is =
-      ap (λ (a : StripeNo → Option Row). stored_by z a (spare - 1)) is
-      ∙ ap (λ (b : StripeNo → Bool). record (before spare) { stripes = b; code = λ u. row_code (if same_stripe s u then Some r else rows u); homes = λ u. row_homes (if same_stripe s u then Some r else rows u); spare = spare - 1 }) (fun_ext (λ u. stripes-added (same_stripe s u) (Some r) (rows u) refl))
-      ∙ ap (λ (h : StripeNo → ℕ → Option Seat). record (with_stripe (before spare) code s) { code = λ u. row_code (if same_stripe s u then Some r else rows u); homes = h }) (fun_ext (λ u. fun_ext (λ f. by (same_stripe s u) (rows u) f)))
-      ∙ ap (λ (c : StripeNo → Code). record (with_homes (before spare) code s seats) { code = c }) (codes-put s rows (Some r) code coded)
+  pub stored-seated : (code : Code) (r : Row) (seats : List Seat) → r.losses.code ≡ code → r.homes ≡ seated_homes seats → after ≡ (λ u. if same_stripe s u then Some r else rows u)
+      → stored_by z after ≡ with_homes before code s seats
+  stored-seated code r seats coded own is =
+      ap (λ (a : StripeNo → Option Row). stored_by z a) is
+      ∙ ap (λ (b : StripeNo → Bool). record before { stripes = b; code = λ u. row_code (if same_stripe s u then Some r else rows u); homes = λ u. row_homes (if same_stripe s u then Some r else rows u) }) (fun_ext (λ u. stripes-added (same_stripe s u) (Some r) (rows u) refl))
+      ∙ ap (λ (h : StripeNo → ℕ → Option Seat). record (with_stripe before code s) { code = λ u. row_code (if same_stripe s u then Some r else rows u); homes = h }) (fun_ext (λ u. fun_ext (λ f. by (same_stripe s u) (rows u) f)))
+      ∙ ap (λ (c : StripeNo → Code). record (with_homes before code s seats) { code = c }) (codes-put s rows (Some r) code coded)
     where
       mapped : (xs : List Seat) (n f : ℕ) → get_or (map Some xs ++ replicate n None) f None ≡ slice_get xs f
       mapped [] n f = replicated n f None
@@ -95,12 +94,12 @@ module _ (z : NodeStates) (rows after : StripeNo → Option Row) (s : StripeNo) 
       by false p f = refl
 
   -- a stripe taken out with its homes
-  pub stored-remove : (spare : ℕ) → after ≡ (λ u. if same_stripe s u then None else rows u) → stored_by z after spare ≡ with_spare (without_stripe (before spare) s) spare
-  stored-remove spare is =
-      ap (λ (a : StripeNo → Option Row). stored_by z a spare) is
-      ∙ ap (λ (b : StripeNo → Bool). record (before spare) { stripes = b; code = λ u. row_code (if same_stripe s u then None else rows u); homes = λ u. row_homes (if same_stripe s u then None else rows u) }) (fun_ext (λ u. stripes-removed (same_stripe s u) (rows u)))
-      ∙ ap (λ (h : StripeNo → ℕ → Option Seat). record (with_spare (without_stripe (before spare) s) spare) { code = λ u. row_code (if same_stripe s u then None else rows u); homes = h }) (fun_ext (λ u. fun_ext (λ f. homes-chosen (same_stripe s u) None (rows u) f refl)))
-      ∙ ap (λ (c : StripeNo → Code). record (with_spare (without_stripe (before spare) s) spare) { code = c }) (codes-put s rows None Wide refl)
+  pub stored-remove : after ≡ (λ u. if same_stripe s u then None else rows u) → stored_by z after ≡ without_stripe before s
+  stored-remove is =
+      ap (λ (a : StripeNo → Option Row). stored_by z a) is
+      ∙ ap (λ (b : StripeNo → Bool). record before { stripes = b; code = λ u. row_code (if same_stripe s u then None else rows u); homes = λ u. row_homes (if same_stripe s u then None else rows u) }) (fun_ext (λ u. stripes-removed (same_stripe s u) (rows u)))
+      ∙ ap (λ (h : StripeNo → ℕ → Option Seat). record (without_stripe before s) { code = λ u. row_code (if same_stripe s u then None else rows u); homes = h }) (fun_ext (λ u. fun_ext (λ f. homes-chosen (same_stripe s u) None (rows u) f refl)))
+      ∙ ap (λ (c : StripeNo → Code). record (without_stripe before s) { code = c }) (codes-put s rows None Wide refl)
 
   module _ (r : Row) (found : rows s ≡ Some r) (q : Row) (f : Fragment) (home : Option Seat) (coded : q.losses.code ≡ r.losses.code) (homes : q.homes ≡ set r.homes f.value home) where
     own : (u : StripeNo) → s.value ≡ u.value → rows u ≡ Some r
@@ -128,12 +127,12 @@ module _ (z : NodeStates) (rows after : StripeNo → Option Row) (s : StripeNo) 
     ]
 
     -- the home of one fragment set
-    pub stored-home : (spare : ℕ) → after ≡ (λ u. if same_stripe s u then Some q else rows u) → stored_by z after spare ≡ with_home (before spare) s f home
-    stored-home spare is =
-        ap (λ (a : StripeNo → Option Row). stored_by z a spare) is
-        ∙ ap (λ (b : StripeNo → Bool). record (before spare) { stripes = b; code = λ u. row_code (if same_stripe s u then Some q else rows u); homes = λ u. row_homes (if same_stripe s u then Some q else rows u) }) (fun_ext stripes-kept)
-        ∙ ap (λ (c : StripeNo → Code). record (before spare) { code = c; homes = λ u. row_homes (if same_stripe s u then Some q else rows u) }) (fun_ext codes-kept)
-        ∙ ap (λ (h : StripeNo → ℕ → Option Seat). record (before spare) { homes = h }) (fun_ext (λ u. fun_ext (λ g. homes-set u g)))
+    pub stored-home : after ≡ (λ u. if same_stripe s u then Some q else rows u) → stored_by z after ≡ with_home before s f home
+    stored-home is =
+        ap (λ (a : StripeNo → Option Row). stored_by z a) is
+        ∙ ap (λ (b : StripeNo → Bool). record before { stripes = b; code = λ u. row_code (if same_stripe s u then Some q else rows u); homes = λ u. row_homes (if same_stripe s u then Some q else rows u) }) (fun_ext stripes-kept)
+        ∙ ap (λ (c : StripeNo → Code). record before { code = c; homes = λ u. row_homes (if same_stripe s u then Some q else rows u) }) (fun_ext codes-kept)
+        ∙ ap (λ (h : StripeNo → ℕ → Option Seat). record before { homes = h }) (fun_ext (λ u. fun_ext (λ g. homes-set u g)))
 
 -- ---- seats
 
@@ -146,32 +145,31 @@ pub seat-known : (nodes : List NodeInfo) (home : Option Seat) → IfSome home (�
 seat-known nodes None slot = slot
 seat-known nodes (Some seat) slot = slot-known (node_at nodes seat.node) seat.slot slot
 
-pub stored_of : List NodeState → (StripeNo → Option Row) → ℕ → Stored
-stored_of nodes rows spare = record {
+pub stored_of : List NodeState → (StripeNo → Option Row) → Stored
+stored_of nodes rows = record {
   nodes = nodes;
   stripes = λ s. is_some (rows s);
   code = λ s. row_code (rows s);
   homes = λ s. row_homes (rows s);
-  spare = spare;
 }
 
-pub stored_of-states_in : (states : NodeLists) (rows : List (Option Row)) (spare : ℕ) → stored_in (record { node_table = states.list; rows = rows; spare = spare }) ≡ stored_of states.list (rows_in rows) spare
+pub stored_of-states_in : (states : NodeLists) (rows : List (Option Row)) → stored_in (record { node_table = states.list; rows = rows }) ≡ stored_of states.list (rows_in rows)
 unfolding stored_in stored_of
-stored_of-states_in states rows spare = refl
+stored_of-states_in states rows = refl
 
-pub stored_of-rows : (nodes : List NodeState) (rows rows' : StripeNo → Option Row) (spare : ℕ) → AreSameStripes rows rows' → stored_of nodes rows' spare ≡ stored_of nodes rows spare
+pub stored_of-rows : (nodes : List NodeState) (rows rows' : StripeNo → Option Row) → AreSameStripes rows rows' → stored_of nodes rows' ≡ stored_of nodes rows
 unfolding stored_of
-stored_of-rows nodes rows rows' spare same =
-    ap₂ (λ (stripes : StripeNo → Bool) (home : StripeNo → Homes). let s : Stored = record { nodes = nodes; stripes = stripes; code = λ s. row_code (rows' s); homes = home; spare = spare } in s)
+stored_of-rows nodes rows rows' same =
+    ap₂ (λ (stripes : StripeNo → Bool) (home : StripeNo → Homes). let s : Stored = record { nodes = nodes; stripes = stripes; code = λ s. row_code (rows' s); homes = home } in s)
     (fun_ext same.there) (fun_ext same.homes)
-    ∙ ap (λ (c : StripeNo → Code). let s : Stored = record { nodes = nodes; stripes = λ s. is_some (rows s); code = c; homes = λ s. row_homes (rows s); spare = spare } in s) (fun_ext same.codes)
+    ∙ ap (λ (c : StripeNo → Code). let s : Stored = record { nodes = nodes; stripes = λ s. is_some (rows s); code = c; homes = λ s. row_homes (rows s) } in s) (fun_ext same.codes)
 
 -- the stores of tables that differ in the states of their nodes, with rows of the same stripes
-pub stored-set : (old new : NodeLists) (list : List NodeState) (rows rows' : List (Option Row)) (spare : ℕ) → new.list ≡ list → AreSameStripes (rows_in rows) (rows_in rows')
-    → stored_in (record { node_table = new.list; rows = rows'; spare = spare }) ≡ record (stored_in (record { node_table = old.list; rows = rows; spare = spare })) { nodes = list }
+pub stored-set : (old new : NodeLists) (list : List NodeState) (rows rows' : List (Option Row)) → new.list ≡ list → AreSameStripes (rows_in rows) (rows_in rows')
+    → stored_in (record { node_table = new.list; rows = rows' }) ≡ record (stored_in (record { node_table = old.list; rows = rows })) { nodes = list }
 unfolding stored_of
-stored-set old new list rows rows' spare is same =
-    stored_of-states_in new rows' spare
-    ∙ (ap (λ (xs : List NodeState). stored_of xs (rows_in rows') spare) is
-    ∙ (stored_of-rows list (rows_in rows) (rows_in rows') spare same
-    ∙ ap (λ (s : Stored). record s { nodes = list }) (sym (stored_of-states_in old rows spare))))
+stored-set old new list rows rows' is same =
+    stored_of-states_in new rows'
+    ∙ (ap (λ (xs : List NodeState). stored_of xs (rows_in rows')) is
+    ∙ (stored_of-rows list (rows_in rows) (rows_in rows') same
+    ∙ ap (λ (s : Stored). record s { nodes = list }) (sym (stored_of-states_in old rows))))

@@ -1,5 +1,5 @@
 -- The stripes of a store: those that exist, the homes of their fragments, and the nodes with their states.
-use Rattle.std.specs.Prelude.{◌≡◌, ◌≢◌, ℕ, ◌-◌, ◌≤◌, Bool, false, not, ◌&&◌, ◌||◌, if◌then◌else◌, nat_lt, nat_eq, List, map, Option, Some, None, IsTrue, IsFalse, ◌↔◌}
+use Rattle.std.specs.Prelude.{◌≡◌, ◌≢◌, ℕ, ◌≤◌, Bool, false, not, ◌&&◌, ◌||◌, if◌then◌else◌, nat_lt, nat_eq, List, map, Option, Some, None, IsTrue, IsFalse, ◌↔◌}
 use Rattle.std.specs.List.{Contains, AllPairs, slice_get}
 use Rattle.std.specs.Option.{option_map_or}
 use Rattle.lrc_code.specs.declared.codes.Code.{Code}
@@ -21,23 +21,21 @@ use Rattle.lrc_nodes.specs.declared.node_state.NodeState.{NodeState}
 use Rattle.lrc_nodes.specs.States.{first_state, online_in, draining_in}
 use Rattle.lrc_nodes.specs.States as node
 
--- The nodes in the order of the file, with their states; the stripes that exist, their codes and the homes of their fragments;
--- and the number of stripes for which there is room. A stripe that does not exist counts as Wide.
+-- The nodes in the order of the file, with their states; the stripes that exist, their codes and the homes of their fragments.
+-- A stripe that does not exist counts as Wide.
 pub record Stored : Type 0 where
   pub nodes : List NodeState
   pub stripes : StripeNo → Bool
   pub code : StripeNo → Code
   pub homes : StripeNo → Homes
-  pub spare : ℕ
 
--- no stripes and no room, and every node is active, not down and not upgrading
+-- no stripes, and every node is active, not down and not upgrading
 abbrev pub empty : List NodeInfo → Stored
 empty nodes = record {
   nodes = map first_state nodes;
   stripes = λ s. false;
   code = λ s. Wide;
   homes = λ s f. None;
-  spare = 0;
 }
 
 -- one more stripe, of this code, none of whose fragments has a home
@@ -46,7 +44,6 @@ with_stripe t code s = record t {
   stripes = λ r. same_stripe s r || t.stripes r;
   code = λ r. if same_stripe s r then code else t.code r;
   homes = λ r f. if same_stripe s r then None else t.homes r f;
-  spare = t.spare - 1;
 }
 
 -- one more stripe, of this code, whose fragments have their homes on these seats, in rising order of the fragments
@@ -72,10 +69,6 @@ with_state t n mode is_down = record t { nodes = node.with_state t.nodes n mode 
 -- the nodes of an upgrade domain are upgrading or not, as set
 abbrev pub with_upgrading_in : Stored → UpgradeNo → Bool → Stored
 with_upgrading_in t u b = record t { nodes = node.with_upgrading_in t.nodes u b }
-
--- there is room for this number of stripes
-abbrev pub with_spare : Stored → ℕ → Stored
-with_spare t spare = record t { spare = spare }
 
 -- ---- queries of one stripe
 

@@ -4,14 +4,14 @@ ghost use Rattle.lrc_code.specs.declared.codes.Code.TheVariants.{Wide, Narrow};
 ghost use Rattle.lrc_code.specs.declared.fault.Fault.TheVariants.{OutOfMemory};
 ghost use Rattle.lrc_code.specs.Codes.{fragment_count, has_fragment};
 ghost use Rattle.lrc_nodes.specs.States.{infos_in};
-ghost use Rattle.lrc_stripes.specs.Stored.{empty, with_stripe, with_homes, without_stripe, with_home, with_state, with_upgrading_in, with_spare, has_slot, HasNoHome};
+ghost use Rattle.lrc_stripes.specs.Stored.{empty, with_stripe, with_homes, without_stripe, with_home, with_state, with_upgrading_in, has_slot, HasNoHome};
 ghost use Rattle.lrc_rows.specs.NodeStates.{has_node};
 ghost use Rattle.lrc_stripes.specs.Tables.{stored_in};
 
 mod queries;
 
 use crate::{HomeDomains, Seat};
-use lrc_code::{Code, Fault, Fragment, NodeNo, STRIPES, StripeNo, UpgradeNo};
+use lrc_code::{Code, Fault, Fragment, NodeNo, StripeNo, UpgradeNo};
 use lrc_rows::{NodeTable, Row, Rows};
 use lrc_terms::Mode;
 use lrc_topology::Topology;
@@ -23,28 +23,25 @@ use std::marker::Model;
 pub struct Stripes {
     node_table: NodeTable,
     rows: Rows,
-    /// By stripe number; any value for a stripe that does not exist.
-    domains: Vec<HomeDomains>,
-    spare: u32,
 }
 
 impl Model for Stripes {
     ghost use Rattle.lrc_stripes.specs.Tables.{Table};
-    ghost use Rattle.lrc_rows.specs.Listed.{rows_in, row_homes};
-    ghost use Rattle.lrc_rows.specs.NodeStates.{states_in};
+    ghost use Rattle.lrc_rows.specs.Listed.{rows_in};
+    ghost use Rattle.lrc_rows.specs.NodeStates.{states_in, AreUpgrading};
     ghost use Rattle.lrc_rows.specs.Kept.{IsKept};
-    ghost use Rattle.lrc_homes.specs.Domains.{AreDomainsKept};
 
     ghost Value = { Table };
 
-    ghost view = { λ t. record { node_table = t.node_table.list; rows = t.rows; spare = t.spare } };
+    ghost view = { λ t. record { node_table = t.node_table.list; rows = t.rows.list } };
 
-    ghost invariant = { λ t. record { kept : IsKept (states_in t.node_table) (rows_in t.rows); domains : AreDomainsKept (states_in t.node_table).nodes (λ s. row_homes (rows_in t.rows s)) t.domains.items } };
+    ghost invariant = { λ t. record { kept : IsKept (states_in t.node_table) (rows_in t.rows.list); upgrading : AreUpgrading t.node_table.list t.rows.upgrading } };
 }
 
 #[tactic(auto, unfolding(crate::specs::Tables::stored_in))]
 impl Stripes {
-    /// No stripes and no room for any. Every node of the topology is active, and none is down or upgrading.
+    /// No stripes. Every node of the topology is active, and none is down or upgrading. Allocates for all stripe numbers, so that
+    /// no later call allocates.
     ///
     /// # Errors
     ///
@@ -56,68 +53,42 @@ impl Stripes {
         Ok(Stripes {
             node_table: NodeTable::new(alloc, topology)?,
             rows: Rows::new(alloc)?,
-            domains: HomeDomains::of_none(alloc, STRIPES)?,
-            spare: 0,
         })
     }
 
-    /// Makes room for `count` more stripes. Nothing else changes. Today this allocates nothing: `new` allocates for all stripes.
-    ///
-    /// # Errors
-    ///
-    /// None today. A table that grows would return `Fault::OutOfMemory`.
-    pub fn reserve(&mut self, count: u32) -> Result<(), Fault>
-        ensures room { OnOk result (count ≤ (stored_in self.new).spare) }
-        ensures no_less { (stored_in self.old).spare ≤ (stored_in self.new).spare }
-        ensures rest { stored_in self.new ≡ with_spare (stored_in self.old) (stored_in self.new).spare }
-        ensures always { IsOk result }
-        ensures unchanged { OnErr result (stored_in self.new ≡ stored_in self.old) }
-        ensures err { IfErr result (λ e. e ≡ OutOfMemory) }
-    {
-        self.spare = self.spare.max(count);
-        Ok(())
-    }
-
-    /// Adds a stripe of the code `Wide` without homes. There must be room for it.
+    /// Adds a stripe of the code `Wide` without homes.
     pub fn add(&mut self, stripe: StripeNo)
         requires absent { IsFalse ((stored_in self.old).stripes stripe) }
-        requires room { 1 ≤ (stored_in self.old).spare }
         ensures { stored_in self.new ≡ with_stripe (stored_in self.old) Wide stripe }
     {
         self.rows.add(stripe, Row::new(Code::Wide));
-        self.spare -= 1;
     }
 
-    /// Adds a stripe of the code `Narrow` without homes. There must be room for it.
+    /// Adds a stripe of the code `Narrow` without homes.
     pub fn add_narrow(&mut self, stripe: StripeNo)
         requires absent { IsFalse ((stored_in self.old).stripes stripe) }
-        requires room { 1 ≤ (stored_in self.old).spare }
         ensures { stored_in self.new ≡ with_stripe (stored_in self.old) Narrow stripe }
     {
         self.rows.add(stripe, Row::new(Code::Narrow));
-        self.spare -= 1;
     }
 
-    /// Adds a stripe of the code with these homes, in rising order of the fragments. There must be room for it.
+    /// Adds a stripe of the code with these homes, in rising order of the fragments.
     pub fn add_with_homes(&mut self, code: Code, stripe: StripeNo, seats: &[Seat])
         requires absent { IsFalse ((stored_in self.old).stripes stripe) }
-        requires room { 1 ≤ (stored_in self.old).spare }
         requires length { length seats.now ≡ fragment_count code }
         requires slots { All (λ seat. IsTrue (has_slot (infos_in (stored_in self.old).nodes) seat)) seats.now }
         ensures { stored_in self.new ≡ with_homes (stored_in self.old) code stripe seats.now }
     {
-        let domains = &mut self.domains[stripe.value as usize];
-        let losses = self.node_table.enter(code, stripe, seats, domains);
-        let row = Row::seated(code, seats, losses);
+        let mut domains = HomeDomains::none();
+        let losses = self.node_table.enter(code, stripe, seats, &mut domains);
+        let row = Row::seated(code, seats, losses, domains);
         self.rows.add(stripe, row);
-        self.spare -= 1;
     }
 
     /// Removes a stripe and its homes.
     pub fn remove(&mut self, stripe: StripeNo)
         requires { IsTrue ((stored_in self.old).stripes stripe) }
-        ensures stripe { stored_in self.new ≡ with_spare (without_stripe (stored_in self.old) stripe) (stored_in self.new).spare }
-        ensures spare { (stored_in self.old).spare ≤ (stored_in self.new).spare }
+        ensures { stored_in self.new ≡ without_stripe (stored_in self.old) stripe }
     {
         if let Some(row) = self.rows.get(stripe) {
             self.node_table.leave(stripe, row);
@@ -167,10 +138,12 @@ impl Stripes {
     {
         if let Some(row) = self.rows.get(stripe) {
             let former = row.homes.home(fragment);
-            let kept = row.losses_kept(&self.node_table, stripe);
-            let domains = &mut self.domains[stripe.value as usize];
-            let losses = self.node_table.seat(stripe, fragment, home, kept, domains);
-            self.rows.set_home(stripe, fragment, home, losses);
+            let kept = row.losses_up(&self.node_table, stripe);
+            let mut domains = row.domains;
+            let losses = self
+                .node_table
+                .seat(stripe, fragment, home, kept, &mut domains);
+            self.rows.set_home(stripe, fragment, home, domains, losses);
             self.node_table.unseat(stripe, former, &self.rows);
         }
     }
@@ -180,11 +153,11 @@ impl Stripes {
         requires { IsTrue (has_node (infos_in (stored_in self.old).nodes) node) }
         ensures { stored_in self.new ≡ with_state (stored_in self.old) node mode is_down }
     {
-        let was_online = self.node_table.is_online(node);
+        let was_up = self.node_table.is_up(node);
         self.rows
             .follow_draining(&self.node_table, node, mode.is_draining());
         self.node_table.set_state(node, mode, is_down);
-        self.rows.follow_online(&self.node_table, node, was_online);
+        self.rows.follow_up(&self.node_table, node, was_up);
     }
 
     /// Sets whether the nodes of an upgrade domain are upgrading.
@@ -192,7 +165,6 @@ impl Stripes {
         ensures { stored_in self.new ≡ with_upgrading_in (stored_in self.old) domain is_upgrading }
     {
         self.node_table.set_upgrading_in(domain, is_upgrading);
-        self.rows
-            .follow_upgrade(&self.node_table, &self.domains, domain, is_upgrading);
+        self.rows.set_upgrading_in(domain, is_upgrading);
     }
 }

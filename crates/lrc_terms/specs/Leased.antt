@@ -37,7 +37,7 @@ without_lease t s f = record t { leases = λ r g. if same_stripe s r && nat_eq f
 abbrev pub leased_at : Leased → StripeNo → FragmentSet
 leased_at t s f = is_some (t.leases s f)
 
--- with memory for this many more leases
+-- (internal) with memory for this many more leases
 abbrev pub with_spare : Leased → ℕ → Leased
 with_spare t spare = record t { spare = spare }
 

@@ -4,16 +4,16 @@ ghost use Rattle.std.specs.Prelude.{◌≡◌, ◌&&◌, ◌||◌, true, false, 
 ghost use Rattle.lrc_code.specs.declared.numbers.NodeNo.{NodeNo as AnyNode};
 ghost use Rattle.lrc_code.specs.declared.numbers.StripeNo.{StripeNo as AnyStripe};
 ghost use Rattle.lrc_ranks.specs.Sets.{has};
-ghost use Rattle.lrc_rows.specs.NodeStates.{states_in, is_on_several_offline, is_on_many_offline, is_outside, AreOffline};
+ghost use Rattle.lrc_rows.specs.NodeStates.{states_in, is_on_several_offline, is_on_many_offline, AreOffline};
 
 use crate::node_table::NodeTable;
 use crate::offline_nodes::OfflineNodes;
 use crate::offline_stripes::OfflineStripes;
-use lrc_code::{NodeNo, StripeNo, UpgradeNo};
+use lrc_code::{NodeNo, StripeNo};
 use lrc_ranks::StripeSet;
 
 /// The number of offline nodes that are tried for one stripe.
-const FEW: usize = 8;
+const FEW: usize = 3;
 
 impl NodeTable {
     /// The stripes with a home on an offline node.
@@ -74,31 +74,6 @@ impl NodeTable {
             Some(set) => set.contains(stripe),
             None => false,
         }
-    }
-
-    /// `true` tells that the nodes of an upgrade domain are alike: all offline if it is upgrading, else all online. While it is
-    /// upgrading they are, and nothing is looked at.
-    pub(crate) fn are_alike_in(&self, domain: UpgradeNo, is_upgrading: bool) -> bool
-        ensures { result ≡ true → is_upgrading ≡ false → (n : AnyNode) (s : AnyStripe) → (states_in self.now).online n ≡ false → (states_in self.now).on n s ≡ true → is_outside (states_in self.now).nodes domain n ≡ true }
-    {
-        if is_upgrading {
-            return true;
-        }
-        self.are_online_in(domain)
-    }
-
-    /// `true` tells that no offline node with a home of a stripe is in the upgrade domain.
-    fn are_online_in(&self, domain: UpgradeNo) -> bool
-        ensures { result ≡ true → (n : AnyNode) (s : AnyStripe) → (states_in self.now).online n ≡ false → (states_in self.now).on n s ≡ true → is_outside (states_in self.now).nodes domain n ≡ true }
-    {
-        let mut from = 0;
-        while let Some(position) = self.nodes.first_offline_from(from) {
-            if self.nodes.node_at(position).upgrade.value == domain.value {
-                return false;
-            }
-            from = position + 1;
-        }
-        true
     }
 
     /// The offline nodes, if they are few.

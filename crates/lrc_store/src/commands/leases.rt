@@ -1,6 +1,6 @@
 //! Commands of repair leases.
 
-ghost use Rattle.std.specs.Prelude.{◌≡◌, ◌≤◌, ◌++◌, ◌∷◌, [], true, List, length, IsSome};
+ghost use Rattle.std.specs.Prelude.{◌≡◌, ◌++◌, ◌∷◌, [], true, List, length, IsSome};
 ghost use Rattle.lrc_rules.specs.declared.entry.Entry.{Entry};
 ghost use Rattle.lrc_code.specs.declared.numbers.Fragment.{Fragment};
 ghost use Rattle.lrc_rules.specs.States.{State, has_stripe, lease_of};
@@ -9,10 +9,10 @@ ghost use Rattle.lrc_answers.specs.Answers.{told};
 ghost use Rattle.lrc_slots.specs.Tables.{slots_of};
 ghost use Rattle.lrc_terms.specs.Leased as leased;
 ghost use Rattle.lrc_terms.specs.Leased.{Leased};
-ghost use Rattle.lrc_leases.specs.Tables.{leased_in};
+ghost use Rattle.lrc_homes.specs.Domains.{AreDomainsKept};
 ghost use Rattle.lrc_rules.specs.Changes.{with_done};
 ghost use Rattle.lrc_store.specs.Reports.{reported};
-ghost use Rattle.lrc_store.specs.Stores.{IsOf, IsTied, IsGrant, MayLease, AreGrantsOf, AreFew, AreTargetDomains, has_room};
+ghost use Rattle.lrc_store.specs.Stores.{IsOf, IsTied, IsGrant, MayLease, AreGrantsOf, AreFew, targets_in};
 
 use crate::store::Store;
 use lrc_answers::Answer;
@@ -49,13 +49,11 @@ impl Store {
         }
     }
 
-    /// Adds the lease of a fragment that has none, on the seat that is chosen for it. Requires
-    /// room.
+    /// Adds the lease of a fragment that has none, on the seat that is chosen for it.
     #[inline(never)] // a step that grants nothing then saves fewer registers
     pub fn grant(&mut self, lease: &Lease)
         ghost st: { State }
         requires kept { IsOf st self.old }
-        requires room { has_room self.old ≡ true }
         requires told { IsGrant self.old.topology st lease.now }
         ensures nodes { self.new.topology ≡ self.old.topology }
         ensures kept { IsOf (with_lease st lease.now) self.new }
@@ -63,11 +61,10 @@ impl Store {
         self.add_lease(lease);
     }
 
-    /// Adds the lease of a fragment that has none, and takes its target, which the fragment must be able to hold. Requires room.
+    /// Adds the lease of a fragment that has none, and takes its target, which the fragment must be able to hold.
     #[inline(always)]
     pub fn add_lease(&mut self, lease: &Lease)
-        requires room { 1 ≤ (leased_in self.old.leases).spare }
-        requires may { (st : State) × IsOf st self.old × MayLease self.old.topology st lease.now }
+        requires { (st : State) × IsOf st self.old × MayLease self.old.topology st lease.now }
         ensures nodes { self.new.topology ≡ self.old.topology }
         ensures kept { (st : State) → IsOf st self.old → MayLease self.old.topology st lease.now → IsOf (with_lease st lease.now) self.new }
     {
@@ -80,7 +77,7 @@ impl Store {
     fn put_domains(&mut self, lease: &Lease)
         requires { length self.old.target_domains.items ≡ 4096 }
         ensures rest { self.new ≡ record self.old { target_domains = self.new.target_domains } }
-        ensures kept { (t : Leased) → AreTargetDomains (slots_of self.old.table).nodes t self.old.target_domains.items → AreTargetDomains (slots_of self.old.table).nodes (leased.with_lease t lease.now) self.new.target_domains.items }
+        ensures kept { (t : Leased) → AreDomainsKept (slots_of self.old.table).nodes (targets_in t) self.old.target_domains.items → AreDomainsKept (slots_of self.old.table).nodes (targets_in (leased.with_lease t lease.now)) self.new.target_domains.items }
     {
         if let Some(node) = self.table.node(lease.target.node) {
             let domains = &mut self.target_domains[lease.stripe.value as usize];

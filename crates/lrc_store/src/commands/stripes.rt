@@ -11,7 +11,7 @@ ghost use Rattle.lrc_rules.specs.Choices.{AreChosen, IsFirstWithout};
 ghost use Rattle.lrc_rules.specs.Steps.{with_stripe, placed_reply, place_outcome, drop_outcome, without_stripe};
 ghost use Rattle.lrc_rules.specs.Changes.{with_placed};
 ghost use Rattle.lrc_store.specs.Dropping.{unleased, homeless};
-ghost use Rattle.lrc_store.specs.Stores.{IsOf, has_room};
+ghost use Rattle.lrc_store.specs.Stores.{IsOf};
 ghost use Rattle.lrc_bars.specs.Ties.{kept_table};
 
 use crate::store::Store;
@@ -91,7 +91,6 @@ impl Store {
     pub(crate) fn place(&mut self, code: Code, stripe: StripeNo, seats: &[Seat])
         ghost st: { State }
         requires kept { IsOf st self.old }
-        requires room { has_room self.old ≡ true }
         requires told { (place_outcome self.old.topology st code stripe).0 ≡ placed_reply code seats.now }
         ensures nodes { self.new.topology ≡ self.old.topology }
         ensures kept { IsOf (with_placed st code stripe seats.now) self.new }

@@ -2,8 +2,7 @@
 
 ghost use Rattle.std.specs.Prelude.{◌≡◌, ℕ, if◌then◌else◌, None, is_some, option_map, ◌<◌, ◌↔◌, IsTrue, IsFalse, IfSome, IfNone, Some};
 ghost use Rattle.lrc_code.specs.declared.numbers.StripeNo.{StripeNo as AnyStripe};
-ghost use Rattle.lrc_stripes.specs.Stored.{homes_shown, missing_shown, needs_shown, level_shown, has_slot, HasNoHome, AreHomesOn, AreHomesOnFrom, has_work, AreWork, AreWorkFrom, AreAtRisk};
-ghost use Rattle.lrc_rows.specs.NodeStates.{has_node};
+ghost use Rattle.lrc_stripes.specs.Stored.{homes_shown, missing_shown, needs_shown, level_shown, AreHomesOn, AreHomesOnFrom, has_work, AreWork, AreWorkFrom, AreAtRisk};
 ghost use Rattle.lrc_homes.specs.Domains.{AreDomainsOf};
 ghost use Rattle.lrc_code.specs.Codes.{has_fragment};
 ghost use Rattle.lrc_code.specs.Losses.{bits_set};
@@ -18,13 +17,6 @@ use lrc_terms::Mode;
 
 #[tactic(auto, unfolding(crate::specs::Tables::stored_in))]
 impl Stripes {
-    /// The number of stripes for which there is room.
-    pub fn spare(&self) -> u32
-        ensures { result ≡ (stored_in self.now).spare }
-    {
-        self.spare
-    }
-
     /// Whether the stripe exists.
     pub fn contains(&self, stripe: StripeNo) -> bool
         ensures { result ≡ (stored_in self.now).stripes stripe }
@@ -73,7 +65,8 @@ impl Stripes {
         requires { IsTrue ((stored_in self.now).stripes stripe) }
         ensures { AreDomainsOf (infos_in (stored_in self.now).nodes) ((stored_in self.now).homes stripe) result.now }
     {
-        &self.domains[stripe.value as usize]
+        let row = self.rows.get(stripe).unwrap();
+        &row.domains
     }
 
     /// The missing fragments of a stripe: those without a home on an online node. `None` for a stripe that does not exist.
@@ -81,7 +74,8 @@ impl Stripes {
         ensures { result ≡ missing_shown (stored_in self.now) stripe }
     {
         let row = self.rows.get(stripe)?;
-        Some(row.losses_kept(&self.node_table, stripe).missing())
+        let losses = row.losses_kept(&self.node_table, self.rows.upgrading(), stripe);
+        Some(losses.missing())
     }
 
     /// The fragments of a stripe that need a lease: those without a home or with one on a draining node. `None` for a stripe
@@ -106,7 +100,8 @@ impl Stripes {
         ensures { result ≡ level_shown (stored_in self.now) stripe }
     {
         let row = self.rows.get(stripe)?;
-        Some(row.losses_kept(&self.node_table, stripe).level())
+        let losses = row.losses_kept(&self.node_table, self.rows.upgrading(), stripe);
+        Some(losses.level())
     }
 
     /// The lowest-numbered short stripe that is recoverable now, and would not be with the nodes of this upgrade domain
@@ -118,7 +113,7 @@ impl Stripes {
         ensures found { IfSome result (IsFirstShortLostTo (stored_in self.now) domain) }
         ensures none { IfNone result ((s : StripeNo) → IsFalse (is_short_lost_to (stored_in self.now) domain s)) }
     {
-        upgrades::first_short(&self.node_table, &self.rows, &self.domains, domain)
+        upgrades::first_short(&self.node_table, &self.rows, domain)
     }
 
     /// The fragments with a home on a node, in rising order of stripe and fragment.
@@ -172,13 +167,6 @@ impl Stripes {
         AtRisk::new(&self.node_table, &self.rows)
     }
 
-    /// Whether the store has a node of this number.
-    pub fn has_node(&self, node: NodeNo) -> bool
-        ensures { result ≡ has_node (infos_in (stored_in self.now).nodes) node }
-    {
-        self.node_table.node(node).is_some()
-    }
-
     /// The mode of a node, if the store has it.
     pub fn mode(&self, node: NodeNo) -> Option<Mode>
         ensures { result ≡ option_map (λ x. x.mode) (state_at (stored_in self.now).nodes node) }
@@ -198,29 +186,5 @@ impl Stripes {
         ensures { result ≡ online_in (stored_in self.now).nodes node }
     {
         self.node_table.is_online(node)
-    }
-
-    /// Whether the seat exists: its node does, and has the slot.
-    pub fn has_slot(&self, seat: Seat) -> bool
-        ensures { result ≡ has_slot (infos_in (stored_in self.now).nodes) seat }
-    {
-        match self.node_table.node(seat.node) {
-            Some(node) => seat.slot < node.slots,
-            None => false,
-        }
-    }
-
-    /// Whether no fragment has its home on the seat.
-    pub fn is_without_home(&self, seat: Seat) -> bool
-        ensures { IsTrue result ↔ HasNoHome (stored_in self.now) seat }
-    {
-        let mut from = 0;
-        while let Some(stripe) = self.node_table.first_on(seat.node, from) {
-            if self.rows.holds(stripe, seat) {
-                return false;
-            }
-            from = stripe.value as usize + 1;
-        }
-        true
     }
 }

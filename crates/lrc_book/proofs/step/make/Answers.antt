@@ -25,24 +25,21 @@ grant-requires g c =
     let nodes = c.args.store.now.topology in
     let past = (world_from nodes (base_world c.args.base.now) c.args.past.now).past in
     let made = c.made.inside in
-    let step = rw (← c.made.view_is) at c.requires.1.1.1.1.0 in
+    let step = rw (← c.made.view_is) at c.requires.1.1.1.0 in
     let so = subst (λ (st : State). (step_of nodes past st made.session made.command).0 ≡ told made.answer) c.requires.0 step in
     let now = c.in-Granted in
-    (c.requires.1.0, (c.requires.1.1.1.0, granted-told nodes past g.st made.session made.command now.lease now.field-1 (so ∙ ap told now.is)))
+    (c.requires.1.0, granted-told nodes past g.st made.session made.command now.lease now.field-1 (so ∙ ap told now.is))
 
 pub make_change-requires : goal.make_change-requires
 make_change-requires g c =
     let nodes = c.args.store.now.topology in
     let past = (world_from nodes (base_world c.args.base.now) c.args.past.now).past in
     let made = c.made.inside in
-    let step = rw (← c.made.view_is) at c.requires.1.1.1.1.0 in (
+    let step = rw (← c.made.view_is) at c.requires.1.1.1.0 in (
       c.requires.1.0,
       (
-        c.requires.1.1.1.0,
-        (
-          (past, made.session, subst (λ (st : State). (step_of nodes past st made.session made.command).0 ≡ told made.answer) c.requires.0 step),
-          (c.in_default.not-Granted, c.requires.1.1.1.1.1),
-        ),
+        (past, made.session, subst (λ (st : State). (step_of nodes past st made.session made.command).0 ≡ told made.answer) c.requires.0 step),
+        (c.in_default.not-Granted, c.requires.1.1.1.1),
       ),
     )
 
@@ -52,7 +49,7 @@ returns-then-not-changes-clause-kept g c = λ limit was below.
     let past = c.args.past.now in
     let made = c.made.inside in
     let e : Entry = record { session = made.session; command = made.command; reply = told made.answer } in
-    let step = rw (← c.made.view_is) at c.requires.1.1.1.1.0 in
+    let step = rw (← c.made.view_is) at c.requires.1.1.1.0 in
     let w = world_from nodes (base_world c.args.base.now) past in
     let same : changed_by w.state e.command e.reply ≡ w.state =
     sym (step-changed nodes w.past w.state e.session e.command ∙ ap (changed_by w.state e.command) step)
@@ -61,7 +58,7 @@ returns-then-not-changes-clause-kept g c = λ limit was below.
     (kept_push c.args.store.now c.args.store.now c.args.grants.now c.args.grants.now c.args.cursor.now c.cursor_after.result limit (base_world c.args.base.now) past e was below step
     refl (subst (λ (st : State). IsOf st c.args.store.now) (sym same) was.store_is)
     (counted-none ((base_world c.args.base.now).past ++ past) e c.args.grants.now was.counted (c.changes.ensures.none c.if-not-changes.true))
-    (subst (λ (st : State). IsRepairCursor nodes st c.cursor_after.result) (sym same) (c.cursor_after.ensures nodes w.past w.state c.requires.1.1.1.1.0 was.cursor_is)))
+    (subst (λ (st : State). IsRepairCursor nodes st c.cursor_after.result) (sym same) (c.cursor_after.ensures nodes w.past w.state c.requires.1.1.1.0 was.cursor_is)))
 
 pub returns-in-Next-clause-kept : goal.returns-in-Next-clause-kept
 returns-in-Next-clause-kept g c = λ limit was below.
@@ -71,7 +68,7 @@ returns-in-Next-clause-kept g c = λ limit was below.
     let l = c.in-Granted.lease in
     let k = c.in-Granted.field-1 in
     let e : Entry = record { session = made.session; command = made.command; reply = told made.answer } in
-    let step = rw (← c.made.view_is) at c.requires.1.1.1.1.0 in
+    let step = rw (← c.made.view_is) at c.requires.1.1.1.0 in
     let w = world_from nodes (base_world c.args.base.now) past in
     let most = granted-urgent nodes w.past w.state made.session l k
     (subst (λ (command : Command). (step_of nodes w.past w.state made.session command).0 ≡ Granted l k) c.in-Next.is (step ∙ ap told c.in-Granted.is)) in
@@ -92,7 +89,7 @@ returns-in_default-command g c = record {
       let e : Entry = record { session = made.session; command = made.command; reply = told made.answer } in
       rw (← c.made.view_is)
       (kept-granted c.args.store.now c.grant.new.self c.args.grants.now c.count_grant.new.counts cursor cursor limit (base_world c.args.base.now) past e l c.in-Granted.field-1
-      (ap told c.in-Granted.is) was below (rw (← c.made.view_is) at c.requires.1.1.1.1.0) c.grant.ensures.nodes
+      (ap told c.in-Granted.is) was below (rw (← c.made.view_is) at c.requires.1.1.1.0) c.grant.ensures.nodes
       (subst (λ (st : State). IsOf (with_lease st l) c.grant.new.self) (sym c.requires.0) c.grant.ensures.kept) (c.count_grant.ensures ((base_world c.args.base.now).past ++ past) e refl was.counted)
       (cursor-leased c.args.store.now.topology (state_from c.args.store.now.topology (base_world c.args.base.now) past) l cursor was.cursor_is));
 }
@@ -103,7 +100,7 @@ returns-in_default-clause-kept g c = λ limit was below.
     let past = c.args.past.now in
     let made = c.made.inside in
     let e : Entry = record { session = made.session; command = made.command; reply = told made.answer } in
-    let step = rw (← c.made.view_is) at c.requires.1.1.1.1.0 in
+    let step = rw (← c.made.view_is) at c.requires.1.1.1.0 in
     let w = world_from nodes (base_world c.args.base.now) past in
     let now : IsOf (step_of nodes w.past w.state e.session e.command).1 c.make_change.new.self =
     subst (λ (st : State). (step_of nodes w.past st e.session e.command).0 ≡ e.reply → IsOf (step_of nodes w.past st e.session e.command).1 c.make_change.new.self) (sym c.requires.0)

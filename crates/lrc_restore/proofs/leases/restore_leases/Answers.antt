@@ -6,7 +6,7 @@ use Rattle.lrc_rules.specs.States.{State}
 use Rattle.lrc_rules.specs.Leases.{with_lease}
 use Rattle.lrc_images.specs.declared.cause.Cause.{Cause}
 use Rattle.lrc_images.specs.declared.image.LeaseRow.{LeaseRow}
-use Rattle.lrc_images.specs.Images.{earlier, row_lease}
+use Rattle.lrc_images.specs.Images.{earlier}
 use Rattle.lrc_images.specs.Rising.{lease_first}
 use Rattle.lrc_images.specs.Causes.{first_answer, at_place, lease_cause, with_leases}
 use Rattle.lrc_images.proofs.AnswerLemmas.{none-map}
@@ -16,8 +16,8 @@ use Rattle.lrc_restore.proofs.WalkLemmas.{from-next, from-found, rising-next}
 use Rattle.lrc_restore.proofs.LeaseLemmas.{lease-ordered, row-may, row-more}
 use Rattle.lrc_restore.proofs.leases.restore_leases.Goals as goal
 
-pub add_lease-requires-clause-may : goal.add_lease-requires-clause-may
-add_lease-requires-clause-may c =
+pub add_lease-requires : goal.add_lease-requires
+add_lease-requires c =
     let image = c.args.image.now in
     let past = earlier image.grants.items in
     let before = take c.loop-index.index c.as_slice-rows.result.now in
@@ -26,10 +26,8 @@ add_lease-requires-clause-may c =
     let kept = c.loop-index.invariant.kept in
     let none = sym (c.lease_cause.ensures image kept c.requires.grants) ∙ c.in_default.is in (
       st,
-      c.reserve.ensures.same st kept,
-      subst (λ (l : Lease). MayLease c.reserve.new.self.topology st l) (sym (c.lease_of.ensures past c.requires.grants))
-          (subst (λ (ns : List NodeInfo). MayLease ns st (row_lease past row)) (sym c.reserve.ensures.nodes)
-          (row-may c.loop-index.store.topology image before row none)),
+      kept,
+      subst (λ (l : Lease). MayLease c.loop-index.store.topology st l) (sym (c.lease_of.ensures past c.requires.grants)) (row-may c.loop-index.store.topology image before row none),
     )
 
 pub returns-in-Some-clause-refused : goal.returns-in-Some-clause-refused
@@ -71,10 +69,9 @@ loop-index-preserved c =
     let none = subst (λ (ns : List NodeInfo). lease_cause ns image before row ≡ None) was.nodes now in
     let here : lease_cause nodes image before (get_or rows i row) ≡ None = ap (lease_cause nodes image before) (sym is) ∙ none in
     let lease = c.lease_of.ensures past c.requires.grants in
-    let may = subst (λ (l : Lease). MayLease c.reserve.new.self.topology st l) (sym lease)
-    (subst (λ (ns : List NodeInfo). MayLease ns st (row_lease past row)) (sym c.reserve.ensures.nodes) (row-may c.loop-index.store.topology image before row now)) in
+    let may = subst (λ (l : Lease). MayLease c.loop-index.store.topology st l) (sym lease) (row-may c.loop-index.store.topology image before row now) in
     record {
-      nodes = c.add_lease.ensures.nodes ∙ c.reserve.ensures.nodes ∙ was.nodes;
+      nodes = c.add_lease.ensures.nodes ∙ was.nodes;
       from = from-next (at_place place (lease_cause nodes image)) rows i row within
           (none-map (λ (k : Cause). (place + length before, k)) (lease_cause nodes image before (get_or rows i row)) here) was.from;
       rising = rising-next lease_first rows i row within was.rising (lease-ordered nodes image before (get_or rows i row) here);
@@ -82,5 +79,5 @@ loop-index-preserved c =
           (ap (λ (r : LeaseRow). before ++ r ∷ []) is ∙ sym (take_more rows i row within))
           (subst (λ (s : State). IsOf s c.add_lease.new.self) (row-more nodes image before row)
           (subst (λ (l : Lease). IsOf (with_lease st l) c.add_lease.new.self) lease
-          (c.add_lease.ensures.kept st (c.reserve.ensures.same st was.kept) may)));
+          (c.add_lease.ensures.kept st was.kept may)));
     }

@@ -13,23 +13,25 @@ use Rattle.lrc_stripes.proofs.at_risk.stripes_at_risk.Goals as goal
 pub loop-stripe-init : goal.loop-stripe-init
 loop-stripe-init c =
     let states = states_in c.args.node_table.now in
-    let queue : ℕ → StripeNo → Bool = queued risk_rank (rows_in (freshened states.online c.args.rows.now)) in
-    let kept : IsKept states (rows_in c.args.rows.now) = record { losses = c.requires.losses; listed = c.requires.listed } in
-    let covers = at_risk-among states c.args.rows.now kept (has c.stripes_offline-among.result) (has c.join_work.new.set) c.stripes_offline-among.ensures c.join_work.ensures in
+    let queue : ℕ → StripeNo → Bool = queued risk_rank (rows_in (freshened states.online c.args.rows.now.list)) in
+    let kept : IsKept states (rows_in c.args.rows.now.list) = record { losses = c.requires.kept.losses; domains = c.requires.kept.domains; listed = c.requires.kept.listed } in
+    let covers = at_risk-among states c.args.rows.now.list kept (has c.stripes_offline-among.result) (has c.join_work.new.set) c.stripes_offline-among.ensures c.join_work.ensures in
     record {
       kept = kept;
+      upgrading = record { long = c.requires.upgrading.long; each = c.requires.upgrading.each };
       all = covers;
       below = nothing-below queue (has c.join_work.new.set) covers _ c.new-ranks.ensures;
     }
 
 pub loop-stripe-preserved : goal.loop-stripe-preserved
 loop-stripe-preserved c =
-    let queue : ℕ → StripeNo → Bool = queued risk_rank (rows_in (freshened (states_in c.args.node_table.now).online c.args.rows.now)) in
+    let queue : ℕ → StripeNo → Bool = queued risk_rank (rows_in (freshened (states_in c.args.node_table.now).online c.args.rows.now.list)) in
     let is = c.loop-stripe.invariant in
     let sets = c.loop-stripe.ranks in
     let s = c.in-Some.stripe in
     record {
       kept = is.kept;
+      upgrading = is.upgrading;
       all = is.all;
       below = one-more queue (has c.join_work.new.set) is.all (at_rank sets) (at_rank c.add.new.self) c.loop-stripe.from s c.in-Some.ensures is.below
           (λ k t. c.add.ensures k t ∙ ap (λ b. cond (same_stripe s t) b (at_rank sets k t)) (sym (c.risk_rank.ensures.rank k)));
@@ -37,12 +39,12 @@ loop-stripe-preserved c =
 
 pub add-requires-clause-none : goal.add-requires-clause-none
 add-requires-clause-none c =
-    let queue : ℕ → StripeNo → Bool = queued risk_rank (rows_in (freshened (states_in c.args.node_table.now).online c.args.rows.now)) in
+    let queue : ℕ → StripeNo → Bool = queued risk_rank (rows_in (freshened (states_in c.args.node_table.now).online c.args.rows.now.list)) in
     let is = c.loop-stripe.invariant in
     not-yet queue (has c.join_work.new.set) is.all (at_rank c.loop-stripe.ranks) c.loop-stripe.from c.in-Some.stripe c.in-Some.ensures is.below
 
 pub returns : goal.returns
 returns c =
-    let queue : ℕ → StripeNo → Bool = queued risk_rank (rows_in (freshened (states_in c.args.node_table.now).online c.args.rows.now)) in
+    let queue : ℕ → StripeNo → Bool = queued risk_rank (rows_in (freshened (states_in c.args.node_table.now).online c.args.rows.now.list)) in
     let is = c.loop-stripe.invariant in
     all-found queue (has c.join_work.new.set) is.all (at_rank c.loop-stripe.ranks) c.loop-stripe.from c.in_default.ensures is.below

@@ -10,6 +10,12 @@ losses_kept_beside-requires-clause-kept c = c.requires.kept
 pub losses_kept_beside-requires-clause-stands : goal.losses_kept_beside-requires-clause-stands
 losses_kept_beside-requires-clause-stands c = c.requires.stands
 
+pub losses_kept_beside-requires-clause-domains : goal.losses_kept_beside-requires-clause-domains
+losses_kept_beside-requires-clause-domains c = c.requires.domains
+
+pub losses_kept_beside-requires-clause-upgrading : goal.losses_kept_beside-requires-clause-upgrading
+losses_kept_beside-requires-clause-upgrading c = c.requires.upgrading
+
 pub losses_kept_beside-requires-clause-offline : goal.losses_kept_beside-requires-clause-offline
 losses_kept_beside-requires-clause-offline c = c.requires.offline
 

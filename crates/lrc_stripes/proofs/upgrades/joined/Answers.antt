@@ -1,4 +1,4 @@
-use Rattle.lrc_stripes.proofs.UpgradeLemmas.{either-bits}
+use Rattle.lrc_rows.proofs.UpgradingLemmas.{either-bits}
 use Rattle.lrc_stripes.proofs.upgrades.joined.Goals as goal
 
 pub returns : goal.returns

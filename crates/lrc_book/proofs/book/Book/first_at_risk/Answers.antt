@@ -1,7 +1,6 @@
 use Rattle.std.proofs.Common.{List, ap, subst, ◌∙◌}
 use Rattle.std.specs.List.{slice_get}
 use Rattle.lrc_topology.specs.declared.NodeInfo.{NodeInfo}
-use Rattle.lrc_stripes.specs.Tables.{stored_in}
 use Rattle.lrc_stripes.specs.Stored.{Stored, AreAtRisk}
 use Rattle.lrc_terms.specs.Stripes.{StripeLevel}
 use Rattle.lrc_rules.specs.Urgency.{risk}
@@ -17,5 +16,5 @@ returns c =
     let kept = c.store.ensures.kept in
     let are = subst (λ (t : Stored). AreAtRisk t c.at_risk.result) kept.stripes_is c.at_risk.ensures in
     first-left c.at_risk.result c.next.new.self c.next.result c.next.ensures.steps
-    ∙ ap (λ (rows : List StripeLevel). slice_get rows 0) (risk-is store.topology st (stored_in store.stripes).spare c.at_risk.result are kept.seated.stripes)
+    ∙ ap (λ (rows : List StripeLevel). slice_get rows 0) (risk-is store.topology st c.at_risk.result are kept.seated.stripes)
     ∙ ap (λ (nodes : List NodeInfo). slice_get (risk nodes st) 0) c.store.ensures.nodes

@@ -2,7 +2,6 @@ use Rattle.std.proofs.Common.{List, ap, ◌∙◌}
 use Rattle.lrc_topology.specs.declared.NodeInfo.{NodeInfo}
 use Rattle.lrc_stripes.specs.Stored.{Stored, missing_shown}
 use Rattle.lrc_rules.specs.States as states
-use Rattle.lrc_stripes.specs.Tables.{stored_in}
 use Rattle.lrc_store.proofs.NodeStateLemmas.{missing-kept}
 use Rattle.lrc_book.specs.Books.{state_of}
 use Rattle.lrc_book.proofs.book.Book.missing.Goals as goal
@@ -10,5 +9,5 @@ use Rattle.lrc_book.proofs.book.Book.missing.Goals as goal
 pub returns : goal.returns
 returns c =
     c.missing.ensures ∙ ap (λ (x : Stored). missing_shown x c.args.stripe) c.store.ensures.kept.stripes_is
-    ∙ missing-kept c.store.result.now.topology (state_of c.args.self.now) (stored_in c.store.result.now.stripes).spare c.args.stripe
+    ∙ missing-kept c.store.result.now.topology (state_of c.args.self.now) c.args.stripe
     ∙ ap (λ (nodes : List NodeInfo). states.missing_shown nodes (state_of c.args.self.now) c.args.stripe) c.store.ensures.nodes

@@ -1,6 +1,5 @@
 use Rattle.std.proofs.Common.{List, ◌≡◌, ◌++◌, append-nil, sym, ap, ◌∙◌, subst}
 use Rattle.lrc_topology.specs.declared.NodeInfo.{NodeInfo}
-use Rattle.lrc_stripes.specs.Tables.{stored_in}
 use Rattle.lrc_stripes.specs.Stored.{Stored, AreAtRisk}
 use Rattle.lrc_terms.specs.Stripes.{StripeLevel}
 use Rattle.lrc_rules.specs.Urgency.{risk}
@@ -16,5 +15,5 @@ returns-clause-value c =
     let all : c.loop-row.rows.items ≡ c.at_risk-row-items.result =
     sym (append-nil c.loop-row.rows.items) ∙ sym (ap (λ (rest : List StripeLevel). c.loop-row.rows.items ++ rest) c.in-None.ensures.steps.0) ∙ c.loop-row.invariant ∙ c.into_iter-row-iterator.ensures.into_iter_gives in
     let are = subst (λ (t : Stored). AreAtRisk t c.at_risk-row-items.result) kept.stripes_is c.at_risk-row-items.ensures in
-    all ∙ risk-is store.topology st (stored_in store.stripes).spare c.at_risk-row-items.result are kept.seated.stripes
+    all ∙ risk-is store.topology st c.at_risk-row-items.result are kept.seated.stripes
     ∙ ap (λ (nodes : List NodeInfo). risk nodes st) c.store.ensures.nodes

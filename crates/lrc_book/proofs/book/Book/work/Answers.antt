@@ -1,7 +1,6 @@
 use Rattle.std.proofs.Common.{List, ◌≡◌, ◌++◌, append-nil, sym, ap, ◌∙◌, subst}
 use Rattle.lrc_code.specs.declared.numbers.StripeNo.{StripeNo}
 use Rattle.lrc_topology.specs.declared.NodeInfo.{NodeInfo}
-use Rattle.lrc_stripes.specs.Tables.{stored_in}
 use Rattle.lrc_stripes.specs.Stored.{Stored, AreWork}
 use Rattle.lrc_rules.specs.Urgency.{work}
 use Rattle.lrc_book.specs.Books.{state_of}
@@ -16,5 +15,5 @@ returns-clause-value c =
     let all : c.loop-stripe.rows.items ≡ c.work-stripe-items.result =
     sym (append-nil c.loop-stripe.rows.items) ∙ sym (ap (λ (rest : List StripeNo). c.loop-stripe.rows.items ++ rest) c.in-None.ensures.steps.0) ∙ c.loop-stripe.invariant ∙ c.into_iter-stripe-iterator.ensures.into_iter_gives in
     let are = subst (λ (t : Stored). AreWork t c.work-stripe-items.result) kept.stripes_is c.work-stripe-items.ensures in
-    all ∙ work-is store.topology st (stored_in store.stripes).spare c.work-stripe-items.result are kept.seated.stripes
+    all ∙ work-is store.topology st c.work-stripe-items.result are kept.seated.stripes
     ∙ ap (λ (nodes : List NodeInfo). work nodes st) c.store.ensures.nodes

@@ -1,4 +1,4 @@
-use Rattle.std.proofs.Common.{◌≡◌, ◌-◌, None, arith, refl, sym, ◌∙◌, subst}
+use Rattle.std.proofs.Common.{◌≡◌, None, arith, refl, sym, ◌∙◌, subst}
 use Rattle.lrc_terms.specs.Leased.{leases_in, leased_of, with_lease}
 use Rattle.lrc_leases.specs.Masks.{AreMasks}
 use Rattle.lrc_leases.proofs.MaskLemmas.{masks-with}
@@ -31,9 +31,9 @@ invariant_of-self c =
     let none : leases_in (leases_of c.self.inside.slab) c.args.lease.stripe c.args.lease.fragment.value ≡ None = rw (← c.self.view_is) at c.requires.absent in
     let insert = c.insert_reserved-key in
     let masks = c.add-3 in
-    let before = leased_of (leases_of c.self.inside.slab) c.self.inside.spare in
-    let live : leased_of (leases_of insert.new.self) (c.self.inside.spare - 1) ≡ with_lease before c.args.lease =
-    leased-insert c.self.inside.slab insert.new.self insert.result c.args.lease c.self.invariant.single insert.ensures.updates insert.ensures.was_vacant none c.self.inside.spare in
+    let before = leased_of (leases_of c.self.inside.slab) 0 in
+    let live : leased_of (leases_of insert.new.self) 0 ≡ with_lease before c.args.lease =
+    leased-insert c.self.inside.slab insert.new.self insert.result c.args.lease c.self.invariant.single insert.ensures.updates insert.ensures.was_vacant none in
     record {
       single = single-insert c.self.inside.slab insert.new.self insert.result c.args.lease c.self.invariant.single insert.ensures.updates insert.ensures.was_vacant none;
       at = at-insert c.self.inside.slab insert.new.self insert.result c.args.lease c.self.invariant.single insert.ensures.updates insert.ensures.was_vacant none
@@ -62,4 +62,4 @@ returns c =
     let none : leases_in (leases_of c.self.inside.slab) c.args.lease.stripe c.args.lease.fragment.value ≡ None = rw (← c.self.view_is) at c.requires.absent in
     let insert = c.insert_reserved-key in
     rw (← c.self.view_is)
-    (leased-insert c.self.inside.slab insert.new.self insert.result c.args.lease c.self.invariant.single insert.ensures.updates insert.ensures.was_vacant none c.self.inside.spare)
+    (leased-insert c.self.inside.slab insert.new.self insert.result c.args.lease c.self.invariant.single insert.ensures.updates insert.ensures.was_vacant none)

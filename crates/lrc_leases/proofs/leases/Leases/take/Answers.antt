@@ -1,7 +1,7 @@
 use Rattle.std.proofs.Common.{◌≡◌, true, Option, arith, refl, sym, ◌∙◌, subst}
 use Rattle.lrc_leases.specs.Tables.{leased_in}
 use Rattle.lrc_terms.specs.declared.lease.Lease.{Lease}
-use Rattle.lrc_terms.specs.Leased.{leased_of, with_spare, without_lease}
+use Rattle.lrc_terms.specs.Leased.{leased_of, without_lease}
 use Rattle.lrc_leases.specs.Masks.{AreMasks}
 use Rattle.lrc_leases.specs.Kept.{leases_of, is_lease_of, target_chain, end_chain}
 use Rattle.lrc_leases.proofs.SlabLemmas.{at_key, under, single-remove, at-remove, below-remove, leased-remove}
@@ -12,7 +12,7 @@ use Rattle.lrc_leases.proofs.leases.Leases.take.Goals as goal
 pub key_of-key-requires-clause-there : goal.key_of-key-requires-clause-there
 unfolding leased_in
 key_of-key-requires-clause-there c =
-    marked-one c.self.inside.slab c.self.inside.masks c.self.inside.spare c.self.invariant.marked c.args.stripe c.args.fragment.value
+    marked-one c.self.inside.slab c.self.inside.masks c.self.invariant.marked c.args.stripe c.args.fragment.value
     (c.self.invariant.marked c.args.stripe c.args.fragment.value ∙ (rw (← c.self.view_is) at c.requires))
 
 pub returns-clause-value : goal.returns-clause-value
@@ -27,7 +27,7 @@ returns-clause-lease c =
     let (l, at, own) = under c.self.inside.slab c.key_of-key.result c.args.stripe c.args.fragment.value c.key_of-key.ensures in
     rw (← c.self.view_is)
     (leased-remove c.self.inside.slab c.remove-lease.new.self c.key_of-key.result c.args.stripe c.args.fragment l c.self.invariant.single
-    c.remove-lease.ensures.updates at own c.self.inside.spare c.self.inside.spare)
+    c.remove-lease.ensures.updates at own)
 
 pub overflow_add-key : goal.overflow_add-key
 overflow_add-key c =
@@ -48,11 +48,10 @@ invariant_of-self c =
     let taken = c.remove-lease in
     let own = subst (λ (o : Option Lease). is_lease_of c.args.stripe c.args.fragment.value o ≡ true) taken.ensures.value c.key_of-key.ensures in
     let masks = c.remove-3 in
-    let spare = c.self.inside.spare in
-    let before = leased_of (leases_of c.self.inside.slab) spare in
-    let live : leased_of (leases_of taken.new.self) spare ≡ with_spare (without_lease before c.args.stripe c.args.fragment) spare =
+    let before = leased_of (leases_of c.self.inside.slab) 0 in
+    let live : leased_of (leases_of taken.new.self) 0 ≡ without_lease before c.args.stripe c.args.fragment =
     leased-remove c.self.inside.slab taken.new.self c.key_of-key.result c.args.stripe c.args.fragment lease c.self.invariant.single taken.ensures.updates
-    taken.ensures.value own spare spare in
+    taken.ensures.value own in
     record {
       single = single-remove c.self.inside.slab taken.new.self c.key_of-key.result c.args.stripe c.args.fragment lease c.self.invariant.single
           taken.ensures.updates taken.ensures.value own;

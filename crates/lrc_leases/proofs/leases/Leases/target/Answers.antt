@@ -8,7 +8,7 @@ use Rattle.lrc_leases.proofs.leases.Leases.target.Goals as goal
 pub key_of-key-requires-clause-there : goal.key_of-key-requires-clause-there
 unfolding leased_in
 key_of-key-requires-clause-there c =
-    marked-one c.self.inside.slab c.self.inside.masks c.self.inside.spare c.self.invariant.marked c.args.stripe c.args.fragment.value
+    marked-one c.self.inside.slab c.self.inside.masks c.self.invariant.marked c.args.stripe c.args.fragment.value
     (c.self.invariant.marked c.args.stripe c.args.fragment.value ∙ (rw (← c.self.view_is) at c.requires))
 
 pub returns : goal.returns

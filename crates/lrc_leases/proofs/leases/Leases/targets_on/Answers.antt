@@ -12,5 +12,5 @@ unfolding leased_in
 returns c =
     rw (c.new.ensures, ← c.self.view_is)
     (are-those target_chain (is_target_on c.args.node) (node_chain c.args.node) (λ l on. ap (λ i. i % 512) (eqb-true _ _ on))
-    c.self.inside.slab c.self.inside.targets c.self.inside.spare c.walk.result c.self.invariant.single c.self.invariant.targets_are
+    c.self.inside.slab c.self.inside.targets c.walk.result c.self.invariant.single c.self.invariant.targets_are
     (c.walk.ensures.value ∙ ap (chain_in c.self.inside.targets) c.node_chain.ensures.value) c.walk.ensures.once)

@@ -1,7 +1,9 @@
 use Rattle.std.proofs.Common.{◌≤◌, ◌&&◌, false, get_or, ap, sym, subst, map, length, List, ◌∙◌}
 use Rattle.lrc_topology.specs.declared.NodeInfo.{NodeInfo}
 use Rattle.lrc_topology.proofs.IndexLemmas.{numbers-apart}
+use Rattle.lrc_nodes.specs.declared.node_state.NodeState.{NodeState}
 use Rattle.lrc_nodes.specs.States.{first_state}
+use Rattle.lrc_nodes.specs.Kept.{AreUp}
 use Rattle.lrc_nodes.proofs.FirstLemmas.{states-at_first, positions-none, none-set}
 use Rattle.lrc_nodes.proofs.nodes.Nodes.new.Goals as goal
 
@@ -25,6 +27,7 @@ invariant_of-result c =
       off = positions-none _ _ c.new-6.ensures;
       derived = λ p. rw (none-set _ c.new-2.ensures p, none-set _ c.new-4.ensures p, none-set _ c.new-5.ensures p) (none-set _ c.new-6.ensures p);
       grouped = c.in_ok-domains.ensures;
+      flagged = subst (λ (xs : List NodeState). AreUp xs c.in_ok-up.up.items) (sym (states-at_first _ _ _ _ _ c.new-2.ensures c.new-3.ensures c.new-4.ensures c.new-5.ensures)) c.in_ok-up.ensures;
     }
 
 pub returns-clause-value : goal.returns-clause-value

@@ -22,7 +22,7 @@ returns-then-are_plain-clause-losses c =
     record {
       within = within-seated code seats long;
       homeless = mask-empty code seats long is_none no_seat c.none.result.homeless c.none.ensures.homeless (λ f low. refl);
-      missing = mask-empty code seats long (is_missing z.online) no_seat c.none.result.missing c.none.ensures.missing
+      missing = mask-empty code seats long (is_missing z.up) no_seat c.none.result.missing c.none.ensures.missing
           (λ f low. ap not (c.are_plain.ensures c.if-are_plain.true (get_or seats f no_seat).node (known f low)).0);
       needs = mask-empty code seats long (is_to_move z.draining) no_seat c.none.result.needs c.none.ensures.needs
           (λ f low. (c.are_plain.ensures c.if-are_plain.true (get_or seats f no_seat).node (known f low)).1);

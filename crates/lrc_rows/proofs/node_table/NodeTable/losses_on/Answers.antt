@@ -28,8 +28,8 @@ loop-number-preserved c =
     record {
       code_is = is.code_is;
       homeless = is.homeless;
-      missing = mask-next (λ f. is_missing z.online (get_or (seated_homes seats) f None)) i losses.missing.bits c.with_where-losses.result.bits (not c.is_online.result)
-          (missing-at code seats long z.online no_seat i c.is_online.result below c.is_online.ensures) is.missing c.with_where-losses.ensures;
+      missing = mask-next (λ f. is_missing z.up (get_or (seated_homes seats) f None)) i losses.missing.bits c.with_where-losses.result.bits (not c.is_up.result)
+          (missing-at code seats long z.up no_seat i c.is_up.result below c.is_up.ensures) is.missing c.with_where-losses.ensures;
       needs = mask-next (λ f. is_to_move z.draining (get_or (seated_homes seats) f None)) i losses.needs.bits c.with_where-losses-in-loop-number.result.bits c.is_draining.result
           (to_move-at code seats long z.draining no_seat i c.is_draining.result below c.is_draining.ensures) is.needs c.with_where-losses-in-loop-number.ensures;
     }
@@ -44,7 +44,7 @@ returns-clause-losses c =
     record {
       within = within-seated code seats c.requires;
       homeless = mask-empty code seats c.requires is_none no_seat c.loop-number.losses.homeless is.homeless (λ f low. refl);
-      missing = λ f. is.missing f ∙ ap (λ n. nat_lt f n && is_missing z.online (get_or (seated_homes seats) f None)) all;
+      missing = λ f. is.missing f ∙ ap (λ n. nat_lt f n && is_missing z.up (get_or (seated_homes seats) f None)) all;
       needs = λ f. is.needs f ∙ ap (λ n. nat_lt f n && is_to_move z.draining (get_or (seated_homes seats) f None)) all;
     }
 

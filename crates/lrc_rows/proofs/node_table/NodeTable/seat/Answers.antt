@@ -7,11 +7,11 @@ use Rattle.lrc_homes.specs.Masks.{IsPut}
 use Rattle.lrc_rows.specs.NodeStates.{states_in}
 use Rattle.lrc_rows.specs.Kept.{AreWith}
 use Rattle.lrc_rows.proofs.DomainLemmas.{domains-with, domains-without}
-use Rattle.lrc_rows.proofs.NodeStateLemmas.{found, found-online, found-draining}
+use Rattle.lrc_rows.proofs.NodeStateLemmas.{found, found-up, found-draining}
 use Rattle.lrc_rows.proofs.node_table.NodeTable.seat.Goals as goal
 
-pub is_offline_at-is_offline-requires : goal.is_offline_at-is_offline-requires
-is_offline_at-is_offline-requires c =
+pub is_up_at-is_up-requires : goal.is_up_at-is_up-requires
+is_up_at-is_up-requires c =
     (found c.self.inside.nodes c.self.inside.stripes.items c.args.self.now c.self.view_is c.in-Some.seat.node c.position_of-position.result c.position_of-position.ensures).1
 
 pub is_draining_at-is_draining-requires : goal.is_draining_at-is_draining-requires
@@ -28,7 +28,7 @@ returns-in-Some-clause-losses c =
     let at = c.position_of-position.ensures in
     let x = get_or states p no_state in
     let here = sym (get_or_default states p x no_state (found states sets c.args.self.now c.self.view_is n p at).1) in
-    let off = c.is_offline_at-is_offline.ensures no_state ∙ ap not (found-online states sets c.args.self.now c.self.view_is n p at x here) in
+    let off = ap not (c.is_up_at-is_up.ensures no_state ∙ found-up states sets c.args.self.now c.self.view_is n p at x here) in
     let drains = c.is_draining_at-is_draining.ensures no_state ∙ found-draining states sets c.args.self.now c.self.view_is n p at x here in
     let put = c.put.ensures in
     let f = c.args.fragment.value in

@@ -1,14 +1,10 @@
-use Rattle.std.proofs.Common.{ap, ◌∙◌}
-use Rattle.lrc_code.specs.declared.losses.LossMask.{LossMask}
-use Rattle.lrc_homes.specs.declared.losses.Losses.{Losses}
-use Rattle.lrc_rows.specs.NodeStates.{states_in}
-use Rattle.lrc_rows.proofs.FreshLemmas.{renewed-kept}
+use Rattle.std.proofs.Common.{IfSome, subst}
+use Rattle.lrc_rows.specs.NodeStates.{states_in, AreOffline}
 use Rattle.lrc_rows.proofs.row.Row.losses_kept_beside.Goals as goal
 
-pub returns : goal.returns
-returns c =
+pub returns-in-Some : goal.returns-in-Some
+returns-in-Some c =
     let z = states_in c.args.node_table.now in
-    let r = c.args.self.now in
     let k = c.requires.kept in
-    ap (λ (m : LossMask). let l : Losses = record r.losses { missing = m } in l) c.missing-losses.ensures.value
-    ∙ renewed-kept z.online z.draining r.homes r.losses (record { within = k.within; homeless = k.homeless; missing = k.missing; needs = k.needs }) c.if-self-eq0.false
+    let are = subst (λ o. IfSome o (λ x. AreOffline z x.now)) c.in-Some.is c.requires.offline in
+    c.losses_beside.ensures z c.args.stripe are (record { within = k.within; homeless = k.homeless; missing = k.missing; needs = k.needs }) c.requires.stands

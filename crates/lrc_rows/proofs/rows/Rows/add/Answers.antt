@@ -1,6 +1,18 @@
-use Rattle.std.proofs.Common.{◌<◌, true, Some, length, arith, refl}
-use Rattle.lrc_rows.proofs.RowsLemmas.{rows_in-set, present-set, are_queued-set}
+use Rattle.std.proofs.Common.{◌≡◌, ◌<◌, true, Option, Some, None, length, arith, refl, sym, ap, ◌∙◌}
+use Rattle.std.proofs.lemmas.List.{get_or_default}
+use Rattle.lrc_rows.specs.Listed.{rows_in}
+use Rattle.lrc_rows.specs.Kept.{is_planed}
+use Rattle.lrc_rows.proofs.RowsLemmas.{rows_in-set, present-set, planed-added, are_queued-set}
 use Rattle.lrc_rows.proofs.rows.Rows.add.Goals as goal
+
+pub set_planes-requires : goal.set_planes-requires
+set_planes-requires c = λ f low.
+    let list = c.self.inside.list.items in
+    let s = c.args.stripe in
+    let was = c.self.invariant in
+    let within : s.value < length list = let below = s.in_range in let long = was.long in omega (arith, below, long) in
+    let old : c.index.result.now ≡ rows_in list s = c.index.ensures ∙ get_or_default list s.value c.index.result.now None within in
+    was.planed.missing f s low ∙ sym (c.planed-before.ensures f ∙ ap (is_planed f) (c.as_ref.ensures.value ∙ old))
 
 pub invariant_of-self : goal.invariant_of-self
 invariant_of-self c =
@@ -9,12 +21,16 @@ invariant_of-self c =
     let row = c.args.row in
     let there = c.self.inside.there in
     let was = c.self.invariant in
+    let planes = c.set_planes.ensures in
     let within : s.value < length list = let low = s.in_range in let long = was.long in omega (arith, low, long) in
-    are_queued-set list s (Some row) within c.self.inside.needs.items row.losses.needs.bits there c.set.new.self c.self.inside.work c.relist.new.self c.work_rank-rank.result
-    was (present-set list s (Some row) within there c.set.new.self true was.present refl c.set.ensures) refl c.work_rank-rank.ensures.value c.relist.ensures
+    are_queued-set list s (Some row) within c.self.inside.upgrading c.self.inside.needs.items row.losses.needs.bits there c.set-2.new.self c.self.inside.work c.relist.new.self
+    c.self.inside.planes c.set_planes.new.planes c.work_rank-rank.result was
+    (planed-added list s (Some row) within row refl c.self.inside.planes c.set_planes.new.planes c.planed.result.bits _ was.planed c.planed.ensures refl planes.missing planes.work c.set.new.self planes.narrow
+    c.is_narrow.result c.is_narrow.ensures c.set.ensures)
+    (present-set list s (Some row) within there c.set-2.new.self true was.present refl c.set-2.ensures) refl c.work_rank-rank.ensures.value c.relist.ensures
 
-pub returns : goal.returns
-returns c =
+pub returns-clause-rows : goal.returns-clause-rows
+returns-clause-rows c =
     let list = c.self.inside.list.items in
     let s = c.args.stripe in
     let within : s.value < length list = let low = s.in_range in let long = c.self.invariant.long in omega (arith, low, long) in

@@ -1,6 +1,20 @@
-use Rattle.std.proofs.Common.{◌<◌, false, None, length, arith, refl}
-use Rattle.lrc_rows.proofs.RowsLemmas.{rows_in-set, present-set, are_queued-set}
+use Rattle.std.proofs.Common.{◌≡◌, ◌<◌, false, Some, None, length, arith, refl, sym, ap, ◌∙◌}
+use Rattle.std.proofs.lemmas.List.{get_or_default}
+use Rattle.lrc_code.specs.Losses.{bits_set}
+use Rattle.lrc_rows.specs.Listed.{rows_in}
+use Rattle.lrc_rows.specs.Kept.{is_planed}
+use Rattle.lrc_rows.proofs.UpgradingLemmas.{no-bits}
+use Rattle.lrc_rows.proofs.RowsLemmas.{rows_in-set, present-set, planed-kept, are_queued-set}
 use Rattle.lrc_rows.proofs.rows.Rows.remove.Goals as goal
+
+pub set_planes-requires : goal.set_planes-requires
+set_planes-requires c = λ f low.
+    let list = c.self.inside.list.items in
+    let s = c.args.stripe in
+    let was = c.self.invariant in
+    let within : s.value < length list = let below = s.in_range in let long = was.long in omega (arith, below, long) in
+    let old : c.index.result.now ≡ rows_in list s = c.index.ensures ∙ get_or_default list s.value c.index.result.now None within in
+    was.planed.missing f s low ∙ sym (c.planed-before.ensures f ∙ ap (is_planed f) (c.as_ref.ensures.value ∙ old))
 
 pub invariant_of-self : goal.invariant_of-self
 invariant_of-self c =
@@ -8,12 +22,16 @@ invariant_of-self c =
     let s = c.args.stripe in
     let there = c.self.inside.there in
     let was = c.self.invariant in
+    let planes = c.set_planes.ensures in
     let within : s.value < length list = let low = s.in_range in let long = was.long in omega (arith, low, long) in
-    are_queued-set list s None within c.self.inside.needs.items 0 there c.set.new.self c.self.inside.work c.relist.new.self None
-    was (present-set list s None within there c.set.new.self false was.present refl c.set.ensures) refl refl c.relist.ensures
+    are_queued-set list s None within c.self.inside.upgrading c.self.inside.needs.items 0 there c.set.new.self c.self.inside.work c.relist.new.self c.self.inside.planes c.set_planes.new.planes None
+    was
+    (planed-kept list s None within c.self.inside.planes c.set_planes.new.planes c.from_bits.result.bits false was.planed (λ f. ap (λ b. bits_set b f) c.from_bits.ensures ∙ no-bits f) refl planes.missing planes.work planes.narrow
+    (λ q is. absurd (let clash : None ≡ Some q = is in cc)))
+    (present-set list s None within there c.set.new.self false was.present refl c.set.ensures) refl refl c.relist.ensures
 
-pub returns : goal.returns
-returns c =
+pub returns-clause-rows : goal.returns-clause-rows
+returns-clause-rows c =
     let list = c.self.inside.list.items in
     let s = c.args.stripe in
     let within : s.value < length list = let low = s.in_range in let long = c.self.invariant.long in omega (arith, low, long) in

@@ -6,10 +6,10 @@ use Rattle.lrc_rows.specs.Kept.{AreRenewed, IsMissingOn}
 use Rattle.lrc_rows.proofs.RowsLemmas.{missing_on-work}
 use Rattle.lrc_rows.proofs.rows.Rows.renew_missing.Goals as goal
 
-pub returns-in-Some : goal.returns-in-Some
-returns-in-Some c =
+pub returns-in-Some-clause-rows : goal.returns-in-Some-clause-rows
+returns-in-Some-clause-rows c =
     let n = c.args.node in
-    let e = c.renew_missing_in.ensures in
-    subst (λ (on : StripeNo → Bool). AreRenewed on (IsMissingOn n c.args.are_missing) (rows_in c.args.self.now) (rows_in c.renew_missing_in.new.self)) c.in-Some.ensures.set
-    (missing_on-work n c.args.are_missing (has c.in-Some.stripes.now) (has c.args.work.now) (has c.new-common.result) (has c.insert_common.new.self) (rows_in c.args.self.now)
-    (rows_in c.renew_missing_in.new.self) c.new-common.ensures c.insert_common.ensures c.requires (record { listed = e.listed; others = e.others }))
+    let e = c.renew_missing_in.ensures.rows in
+    subst (λ (on : StripeNo → Bool). AreRenewed on (IsMissingOn n c.args.are_missing) (rows_in c.args.self.now.list) (rows_in c.renew_missing_in.new.self.list)) c.in-Some.ensures.set
+    (missing_on-work n c.args.are_missing (has c.in-Some.stripes.now) (has c.args.work.now) (has c.new-common.result) (has c.insert_common.new.self) (rows_in c.args.self.now.list)
+    (rows_in c.renew_missing_in.new.self.list) c.new-common.ensures c.insert_common.ensures c.requires (record { listed = e.listed; others = e.others }))

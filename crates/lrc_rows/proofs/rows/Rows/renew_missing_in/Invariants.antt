@@ -1,3 +1,4 @@
+use Rattle.std.proofs.Common.{◌≡◌}
 use Rattle.lrc_ranks.specs.Sets.{has}
 use Rattle.lrc_rows.specs.Listed.{rows_in}
 use Rattle.lrc_rows.specs.Kept.{IsMissingOn}
@@ -7,7 +8,10 @@ use Rattle.lrc_rows.proofs.rows.Rows.renew_missing_in.Given as goal
 
 -- the stripes that are passed have their new rows
 abbrev pub invariant-loop-stripe : goal.invariant-loop-stripe
-invariant-loop-stripe l = AreRenewedBut (has l.stripes) (IsMissingOn l.node l.are_missing) (rows_in l.fn.self) (has l.left) (rows_in l.self)
+invariant-loop-stripe l = record {
+  rows : AreRenewedBut (has l.stripes) (IsMissingOn l.node l.are_missing) (rows_in l.fn.self.list) (has l.left) (rows_in l.self.list);
+  upgrading : l.self.upgrading ≡ l.fn.self.upgrading;
+}
 
 abbrev pub decreases-loop-stripe : goal.decreases-loop-stripe
 decreases-loop-stripe l = member_count l.left

@@ -12,5 +12,8 @@ returns-clause-rank c = λ k.
     let online = (states_in c.args.node_table.now).online in
     let row = c.in_ok-row.row.now in
     let found = sym c.get.ensures ∙ ap option_copied c.in_ok-row.was in
-    ap (λ (o : Option Row). is_at k (option_and_then (λ r. risk_rank r.losses) o)) (freshened-there online c.args.self.now c.args.stripe row found)
+    ap (λ (o : Option Row). is_at k (option_and_then (λ r. risk_rank r.losses) o)) (freshened-there online c.args.self.now.list c.args.stripe row found)
     ∙ ap (is_at k) (sym (c.risk_rank.ensures.value ∙ ap risk_rank c.losses_kept.ensures))
+
+pub losses_kept-requires-clause-domains : goal.losses_kept-requires-clause-domains
+losses_kept-requires-clause-domains c = c.requires.kept.domains c.args.stripe c.in_ok-row.row.now (sym c.get.ensures ∙ ap option_copied c.in_ok-row.was)

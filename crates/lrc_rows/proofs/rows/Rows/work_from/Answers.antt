@@ -2,9 +2,8 @@ use Rattle.std.proofs.Common.{◌≡◌, ℕ, Bool, true, false, sym, ap, ◌∙
 use Rattle.std.proofs.lemmas.Bool.{eqb-true}
 use Rattle.lrc_code.specs.declared.numbers.StripeNo.{StripeNo}
 use Rattle.lrc_ranks.specs.Ranks.{is_at, queue_from}
-use Rattle.lrc_homes.specs.Masks.{work_rank}
 use Rattle.lrc_rows.specs.Listed.{rows_in}
-use Rattle.lrc_rows.specs.Kept.{queued}
+use Rattle.lrc_rows.specs.Kept.{ranked}
 use Rattle.lrc_rows.proofs.rows.Rows.work_from.Goals as goal
 
 pub returns-in-Some : goal.returns-in-Some
@@ -16,7 +15,7 @@ returns-in-Some c = λ k at.
     let same : rank ≡ k = eqb-true rank k (ap (is_at k) (sym c.in-Some.is) ∙ found) in
     rw (← c.self.view_is)
     (c.walk.ensures ∙ ap (λ (queue : ℕ → StripeNo → Bool). queue_from queue rank first.value) c.self.invariant.works
-    ∙ ap (λ n. queue_from (queued work_rank (rows_in c.self.inside.list.items)) n first.value) same)
+    ∙ ap (λ n. queue_from (ranked c.self.inside.upgrading (rows_in c.self.inside.list.items)) n first.value) same)
 
 pub returns-in-None : goal.returns-in-None
 returns-in-None c = λ k at.

@@ -14,7 +14,7 @@ use Rattle.lrc_store.proofs.store.Store.change_by.Goals as goal
 pub move_in-requires : goal.move_in-requires
 move_in-requires g c =
     let nodes = c.args.self.now.topology in
-    let told = c.requires.1.1.0 in
+    let told = c.requires.1.0 in
     let e = sym (ap (λ (command : Command). (step nodes told.past g.st told.session command).0) c.in-Done-Ended.is-0) ∙ told.told ∙ ap answers.told c.in-Done-Ended.is-1 in
     (c.requires.0, done-told nodes g.st told.session c.in-Done-Ended.stripe c.in-Done-Ended.fragment c.in-Done-Ended.field-2-0 e)
 
@@ -31,7 +31,7 @@ returns-in-Revoke-Ended-clause-kept g c =
 pub upgrade-requires : goal.upgrade-requires
 upgrade-requires g c =
     let nodes = c.args.self.now.topology in
-    let told = c.requires.1.1.0 in
+    let told = c.requires.1.0 in
     let e = sym (ap (λ (command : Command). (step nodes told.past g.st told.session command).0) c.in-Upgrade-Changed.is-0) ∙ told.told ∙ ap answers.told c.in-Upgrade-Changed.is-1 in
     c.requires.0.upgrading_is ∙ upgrade-told nodes g.st c.in-Upgrade-Changed.domain e
 
@@ -43,6 +43,6 @@ returns-in-Upgrade-Changed-clause-kept g c =
 pub tick-requires : goal.tick-requires
 tick-requires g c =
     let nodes = c.args.self.now.topology in
-    let told = c.requires.1.1.0 in
+    let told = c.requires.1.0 in
     let e = sym (ap (λ (command : Command). (step nodes told.past g.st told.session command).0) c.in-Tick-Ticked.is-0) ∙ told.told ∙ ap answers.told c.in-Tick-Ticked.is-1 in
-    (c.requires.0, (c.requires.1.1.1.1, tick-told g.st c.in-Tick-Ticked.clock-1 c.in-Tick-Ticked.ended e))
+    (c.requires.0, (c.requires.1.1.1, tick-told g.st c.in-Tick-Ticked.clock-1 c.in-Tick-Ticked.ended e))

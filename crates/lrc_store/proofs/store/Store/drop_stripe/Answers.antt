@@ -25,8 +25,7 @@ returns-clause-kept g c =
     let s = c.args.stripe in
     let table = c.free_homes.new.self.table in
     let stripes = c.remove.new.self in
-    let removed = c.remove.ensures.stripe
-    ∙ ap (λ (k : Store). stored.with_spare (stored.without_stripe (stored_in k.stripes) s) (stored_in stripes).spare) c.free_homes.ensures.rest in
+    let removed = c.remove.ensures ∙ ap (λ (k : Store). stored.without_stripe (stored_in k.stripes) s) c.free_homes.ensures.rest in
     subst (λ (k : Store). IsOf (without_stripe g.st s) (record k { table = table; stripes = stripes })) (sym c.free_homes.ensures.rest)
     (dropped-kept g.st s c.args.self.now c.end_leases.new.self table stripes c.requires.0 c.end_leases.ensures.kept c.end_leases.ensures.nodes
     c.free_homes.ensures.table removed)

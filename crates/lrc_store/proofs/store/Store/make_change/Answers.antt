@@ -8,8 +8,8 @@ use Rattle.lrc_store.proofs.store.Store.make_change.Goals as goal
 
 pub change_by-requires : goal.change_by-requires
 change_by-requires g c =
-    let told = c.requires.1.1.0 in
-    (c.requires.0, (c.requires.1.0, (record { past = told.0; session = told.1; told = told.2 }, (other-answer c.args.command.now c.args.answer.now c.requires.1.1.1.0, c.requires.1.1.1.1))))
+    let told = c.requires.1.0 in
+    (c.requires.0, (record { past = told.0; session = told.1; told = told.2 }, (other-answer c.args.command.now c.args.answer.now c.requires.1.1.0, c.requires.1.1.1)))
 
 -- the command and the reply determine the state after it
 pub returns-clause-kept : goal.returns-clause-kept

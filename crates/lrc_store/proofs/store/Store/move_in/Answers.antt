@@ -3,7 +3,6 @@ use Rattle.lrc_code.specs.Codes.{has_fragment}
 use Rattle.lrc_terms.specs.declared.lease.Lease.{Lease}
 use Rattle.lrc_leases.specs.Tables.{leased_in}
 use Rattle.lrc_terms.specs.Leased as leased
-use Rattle.lrc_terms.specs.Leased.{with_spare}
 use Rattle.lrc_nodes.specs.States.{infos_in}
 use Rattle.lrc_stripes.specs.Stored.{Stored, has_slot, HasNoHome}
 use Rattle.lrc_stripes.specs.Stored as stored
@@ -48,7 +47,7 @@ returns-in-Some-clause-kept g c =
     ∙ ap (λ (x : Store). (leased_in x.leases).leases s f.value) same ∙ sym c.remove.ensures.value ∙ c.in-Some.is in
     subst (λ (o : Option Lease). IsOf (with_done g.st s f o) (record c.free_home.new.self { stripes = stripes; leases = leases })) (sym live)
     (subst (λ (x : Store). stored_in stripes ≡ stored.with_home (stored_in x.stripes) s f (Some target)
-    → leased_in leases ≡ with_spare (leased.without_lease (leased_in x.leases) s f) (leased_in leases).spare
+    → leased_in leases ≡ leased.without_lease (leased_in x.leases) s f
     → IsOf (moved_in g.st s f target) (record x { stripes = stripes; leases = leases })) same
     (move-kept g.st k c.requires.0 s f c.in-Some.lease live c.free_home.new.self.table stripes leases (c.free_home.ensures.table g.st c.requires.0))
     c.put_home.ensures c.remove.ensures.lease)

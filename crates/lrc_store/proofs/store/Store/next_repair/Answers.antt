@@ -21,8 +21,7 @@ loop-stripe-init c =
     let same = sym c.into_iter-stripe-iterator.ensures.into_iter_gives in (
       subst (All (λ s. IsTrue ((stored_in c.args.self.now.stripes).stripes s))) same c.work_from-stripe-items.ensures.there,
       λ st kept ahead.
-          let spare = (stored_in c.args.self.now.stripes).spare in
-          next-first c.args.self.now.topology st spare stripes
+          next-first c.args.self.now.topology st stripes
           (subst (HaveGrantable c.args.self.now.topology st) same (c.work_from-stripe-items.ensures.all st kept ahead)),
     )
 

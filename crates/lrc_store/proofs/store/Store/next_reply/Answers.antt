@@ -1,7 +1,6 @@
 use Rattle.std.proofs.Common.{◌≡◌, true, false, Option, sym, ap, subst, ◌∙◌}
 use Rattle.lrc_stripes.specs.Stored.{Stored, has_work}
 use Rattle.lrc_terms.specs.Stripes.{StripeFragment}
-use Rattle.lrc_stripes.specs.Tables.{stored_in}
 use Rattle.lrc_rules.specs.Leases.{next_answer, next_outcome}
 use Rattle.lrc_store.proofs.store.Store.next_reply.Goals as goal
 use Rattle.lrc_store.proofs.WorkLemmas.{idle-next}
@@ -12,7 +11,7 @@ pub returns-then-not-has_work : goal.returns-then-not-has_work
 unfolding next_outcome
 returns-then-not-has_work c = λ st past kept counted ahead.
     let nodes = c.args.self.now.topology in
-    let none = idle-next nodes st (stored_in c.args.self.now.stripes).spare
+    let none = idle-next nodes st
     (λ s has.
     (let some : c.has_work.result ≡ true = c.has_work.ensures.1 (s, subst (λ (t : Stored). has_work t s ≡ true) (sym kept.stripes_is) has) in
     let both : true ≡ false = sym some ∙ c.if-not-has_work.true in cc)) in

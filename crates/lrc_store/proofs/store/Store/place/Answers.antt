@@ -1,6 +1,5 @@
-use Rattle.std.proofs.Common.{◌≡◌, ◌<◌, ◌≤◌, nat_le, true, lit<, List, length, take, get_or, refl, sym, ap, subst, ◌∙◌, arith}
+use Rattle.std.proofs.Common.{◌≡◌, ◌<◌, true, lit<, List, length, take, get_or, refl, sym, ap, subst, ◌∙◌, arith}
 use Rattle.std.specs.List.{All}
-use Rattle.std.proofs.lemmas.Bool.{and_parts, leb-true}
 use Rattle.std.proofs.lemmas.List.{take_all}
 use Rattle.lrc_code.specs.declared.numbers.Fragment.{Fragment}
 use Rattle.lrc_code.specs.Codes.{fragments}
@@ -34,7 +33,7 @@ first = record { value = 0; in_range = lit< tt }
 pub loop-seat-init : goal.loop-seat-init
 loop-seat-init g c =
     let nodes = c.args.self.now.topology in
-    let told = place-told nodes g.st c.args.code c.args.stripe c.args.seats.now c.requires.1.1 in
+    let told = place-told nodes g.st c.args.code c.args.stripe c.args.seats.now c.requires.1 in
     record {
       rest = refl;
       all = chosen-length nodes (with_stripe g.st c.args.code c.args.stripe) c.args.stripe (fragments c.args.code) c.args.seats.now told.chosen_are;
@@ -72,8 +71,7 @@ add_with_homes-requires g c =
     let all : take c.loop-seat.seat-index c.args.seats.now ≡ c.args.seats.now = take_all c.loop-seat.seat-index c.args.seats.now (omega arith) in
     record {
       absent = ap (λ (x : Stored). x.stripes c.args.stripe) same
-          ∙ (place-told c.args.self.now.topology g.st c.args.code c.args.stripe c.args.seats.now c.requires.1.1).absent;
-      room = subst (λ (k : Store). 1 ≤ (stored_in k.stripes).spare) (sym c.loop-seat.invariant.rest) (leb-true 1 (stored_in c.args.self.now.stripes).spare (and_parts (nat_le 1 (stored_in c.args.self.now.stripes).spare) _ c.requires.1.0).0);
+          ∙ (place-told c.args.self.now.topology g.st c.args.code c.args.stripe c.args.seats.now c.requires.1).absent;
       length = c.loop-seat.invariant.all ∙ fragments-long c.args.code;
       slots = subst (λ (ns : List NodeInfo). All (λ seat. has_slot ns seat ≡ true) c.args.seats.now) (sym (ap (λ (x : Stored). infos_in x.nodes) same ∙ infos-kept g.st c.args.self.now.topology))
           (subst (λ (xs : List Seat). All (λ seat. has_slot c.args.self.now.topology seat ≡ true) xs) all c.loop-seat.invariant.taken.slots);
@@ -85,7 +83,7 @@ returns-clause-kept g c =
     let s = c.args.stripe in
     let seats = c.args.seats.now in
     let k = c.loop-seat.self in
-    let told = place-told c.args.self.now.topology g.st code s seats c.requires.1.1 in
+    let told = place-told c.args.self.now.topology g.st code s seats c.requires.1 in
     let all = c.loop-seat.invariant.all in
     subst (λ (x : Store). IsOf (with_placed g.st code s seats) (record x { stripes = c.add_with_homes.new.self })) (sym c.loop-seat.invariant.rest)
     (placed-kept g.st code s seats c.loop-seat.seat-index c.args.self.now k.table c.add_with_homes.new.self (omega (arith, all)) all c.requires.0 told.absent

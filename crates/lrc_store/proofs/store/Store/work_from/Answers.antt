@@ -12,7 +12,7 @@ work_from-requires c =
     let (st, kept, ahead) = c.requires in
     let nodes = c.args.self.now.topology in
     let past = subst (IsRepairCursor nodes st) c.in-At.is ahead in
-    subst (λ (t : Stored). IsTrue (has_work t c.in-At.first)) (sym kept.stripes_is) (past-works nodes st (stored_in c.args.self.now.stripes).spare c.in-At.first past)
+    subst (λ (t : Stored). IsTrue (has_work t c.in-At.first)) (sym kept.stripes_is) (past-works nodes st c.in-At.first past)
 
 pub returns-in-At-clause-there : goal.returns-in-At-clause-there
 returns-in-At-clause-there c =
@@ -24,7 +24,7 @@ pub returns-in-At-clause-all : goal.returns-in-At-clause-all
 returns-in-At-clause-all c = λ st kept ahead.
     let nodes = c.args.self.now.topology in
     let first = c.in-At.first in
-    grantable-from nodes st (stored_in c.args.self.now.stripes).spare first c.work_from.result (subst (IsRepairCursor nodes st) c.in-At.is ahead)
+    grantable-from nodes st first c.work_from.result (subst (IsRepairCursor nodes st) c.in-At.is ahead)
     (subst (λ (t : Stored). AreWorkFrom t first c.work_from.result) kept.stripes_is c.work_from.ensures)
 
 pub returns-in-First : goal.returns-in-First
@@ -33,6 +33,6 @@ returns-in-First c = record {
       let t = stored_in c.args.self.now.stripes in
       All-members (λ s. IsTrue (t.stripes s)) c.work.result (λ s here. (and_parts (t.stripes s) _ ((c.work.ensures.each s).0 here)).0);
   all = λ st kept ahead.
-      grantable-all c.args.self.now.topology st (stored_in c.args.self.now.stripes).spare c.work.result
+      grantable-all c.args.self.now.topology st c.work.result
       (subst (λ (t : Stored). AreWork t c.work.result) kept.stripes_is c.work.ensures);
 }

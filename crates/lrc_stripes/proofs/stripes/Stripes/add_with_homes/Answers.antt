@@ -1,4 +1,4 @@
-use Rattle.std.proofs.Common.{◌≡◌, ◌-◌, false, IsTrue, List, Option, None, set, get_or, is_some, ap, subst, sym, ◌∙◌}
+use Rattle.std.proofs.Common.{◌≡◌, false, IsTrue, List, Option, None, get_or, is_some, ap, subst, sym, ◌∙◌}
 use Rattle.std.specs.List.{All}
 use Rattle.lrc_topology.specs.Nodes.{node_at}
 use Rattle.lrc_topology.specs.declared.seat.Seat.{Seat}
@@ -7,13 +7,13 @@ use Rattle.lrc_code.specs.declared.codes.Code.{Code}
 use Rattle.lrc_rows.specs.Kept.{IsKept}
 use Rattle.lrc_homes.specs.Homes.{seated_homes}
 use Rattle.lrc_homes.specs.Masks.{AreLosses}
-use Rattle.lrc_homes.specs.Domains.{AreDomainsOf, AreDomainsKept}
-use Rattle.lrc_rows.proofs.DomainLemmas.{domains-put}
+use Rattle.lrc_homes.specs.declared.home_domains.HomeDomains.{HomeDomains}
+use Rattle.lrc_homes.specs.Domains.{AreDomainsOf}
 use Rattle.lrc_stripes.specs.Stored.{has_slot}
 use Rattle.lrc_rows.specs.NodeStates.{NodeStates, states_in}
 use Rattle.lrc_stripes.specs.Tables.{stored_in}
-use Rattle.lrc_rows.specs.Listed.{rows_in, row_homes}
-use Rattle.lrc_stripes.proofs.KeptLemmas.{kept-enter}
+use Rattle.lrc_rows.specs.Listed.{rows_in}
+use Rattle.lrc_stripes.proofs.KeptLemmas.{kept-enter, upgrading-stays}
 use Rattle.lrc_stripes.proofs.StoredLemmas.{stored_by, stored-seated, slot-known}
 use Rattle.lrc_stripes.proofs.stripes.Stripes.add_with_homes.Goals as goal
 
@@ -29,23 +29,22 @@ invariant_of-self c =
     let z = states_in c.self.inside.node_table in
     let homes = seated_homes c.args.seats.now in
     let e = c.enter-losses.ensures.losses in
-    let absent : is_some (rows_in c.self.inside.rows c.args.stripe) ≡ false = rw (← c.self.view_is) at c.requires.absent in
+    let absent : is_some (rows_in c.self.inside.rows.list c.args.stripe) ≡ false = rw (← c.self.view_is) at c.requires.absent in
     let coded : c.seated-row.result.losses.code ≡ c.args.code = ap (λ (l : Losses). l.code) c.seated-row.ensures.losses ∙ c.enter-losses.ensures.code in
-    let are : AreLosses c.seated-row.result.losses.code z.online z.draining homes c.seated-row.result.losses =
-    subst (λ (code : Code). AreLosses code z.online z.draining homes c.seated-row.result.losses) (sym coded)
-    (subst (λ (l : Losses). AreLosses c.args.code z.online z.draining homes l) (sym c.seated-row.ensures.losses) (record { within = e.within; homeless = e.homeless; missing = e.missing; needs = e.needs })) in
-    let put = c.enter-losses.new.domains in
+    let are : AreLosses c.seated-row.result.losses.code z.up z.draining homes c.seated-row.result.losses =
+    subst (λ (code : Code). AreLosses code z.up z.draining homes c.seated-row.result.losses) (sym coded)
+    (subst (λ (l : Losses). AreLosses c.args.code z.up z.draining homes l) (sym c.seated-row.ensures.losses) (record { within = e.within; homeless = e.homeless; missing = e.missing; needs = e.needs })) in
+    let at : AreDomainsOf z.nodes (λ f. get_or homes f None) c.seated-row.result.domains =
+    subst (λ (d : HomeDomains). AreDomainsOf z.nodes (λ f. get_or homes f None) d) (sym c.seated-row.ensures.domains) c.enter-losses.ensures.domains in
     record {
-      kept = subst (λ (y : NodeStates). IsKept y (rows_in c.add.new.self)) (sym c.enter-losses.ensures.on)
-          (kept-enter z (rows_in c.self.inside.rows) c.self.invariant.kept c.args.stripe homes c.seated-row.result (rows_in c.add.new.self) absent c.seated-row.ensures.homes are c.add.ensures);
-      domains = subst (λ (y : NodeStates). AreDomainsKept y.nodes (λ s. row_homes (rows_in c.add.new.self s)) (set c.self.inside.domains.items c.args.stripe.value put)) (sym c.enter-losses.ensures.on)
-          (domains-put z.nodes c.self.inside.domains.items (rows_in c.self.inside.rows) (rows_in c.add.new.self) c.args.stripe c.seated-row.result put c.add.ensures
-          (subst (λ (hs : List (Option Seat)). AreDomainsOf z.nodes (λ f. get_or hs f None) put) (sym c.seated-row.ensures.homes) c.enter-losses.ensures.domains) c.self.invariant.domains);
+      kept = subst (λ (y : NodeStates). IsKept y (rows_in c.add.new.self.list)) (sym c.enter-losses.ensures.on)
+          (kept-enter z (rows_in c.self.inside.rows.list) c.self.invariant.kept c.args.stripe homes c.seated-row.result (rows_in c.add.new.self.list) absent c.seated-row.ensures.homes are at c.add.ensures.rows);
+      upgrading = upgrading-stays c.self.inside.node_table c.enter-losses.new.self c.enter-losses.ensures.on c.self.inside.rows.upgrading c.add.new.self.upgrading c.add.ensures.upgrading c.self.invariant.upgrading;
     }
 
 pub returns : goal.returns
 unfolding stored_in states_in
 returns c =
-    rw (← c.self.view_is) (ap (λ (z : NodeStates). stored_by z (rows_in c.add.new.self) (c.self.inside.spare - 1)) c.enter-losses.ensures.on
-    ∙ stored-seated (states_in c.self.inside.node_table) (rows_in c.self.inside.rows) (rows_in c.add.new.self) c.args.stripe c.args.code c.seated-row.result c.args.seats.now c.self.inside.spare
-    (ap (λ (l : Losses). l.code) c.seated-row.ensures.losses ∙ c.enter-losses.ensures.code) c.seated-row.ensures.homes c.add.ensures)
+    rw (← c.self.view_is) (ap (λ (z : NodeStates). stored_by z (rows_in c.add.new.self.list)) c.enter-losses.ensures.on
+    ∙ stored-seated (states_in c.self.inside.node_table) (rows_in c.self.inside.rows.list) (rows_in c.add.new.self.list) c.args.stripe c.args.code c.seated-row.result c.args.seats.now
+    (ap (λ (l : Losses). l.code) c.seated-row.ensures.losses ∙ c.enter-losses.ensures.code) c.seated-row.ensures.homes c.add.ensures.rows)

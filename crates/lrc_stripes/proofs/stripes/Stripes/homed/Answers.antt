@@ -9,4 +9,4 @@ unfolding stored_in states_in
 returns-clause-within c =
     let s = c.self.inside in
     rw (← c.self.view_is)
-    (homed-within (states_in s.node_table) (rows_in s.rows) c.self.invariant.kept c.args.stripe c.homed.result (rw (← c.self.view_is) at c.requires) c.homed.ensures.homed)
+    (homed-within (states_in s.node_table) (rows_in s.rows.list) c.self.invariant.kept c.args.stripe c.homed.result (rw (← c.self.view_is) at c.requires) c.homed.ensures.homed)

@@ -7,7 +7,7 @@ pub returns-in_err-row : goal.returns-in_err-row
 returns-in_err-row c =
     let s = c.self.inside in
     rw (c.from_residual.ensures, ← c.self.view_is)
-    (sym (homes_shown-absent s.node_table s.rows s.spare c.self.invariant.kept c.args.stripe
+    (sym (homes_shown-absent s.node_table s.rows.list c.self.invariant.kept c.args.stripe
     (sym c.get.ensures ∙ ap option_copied c.in_err-row.was)))
 
 pub returns : goal.returns
@@ -15,5 +15,5 @@ returns c =
     let s = c.self.inside in
     let row = c.in_ok-row.row.now in
     rw (← c.self.view_is, c.again.ensures)
-    (sym (homes_shown-there s.node_table s.rows s.spare c.self.invariant.kept c.args.stripe row row.sixteen
+    (sym (homes_shown-there s.node_table s.rows.list c.self.invariant.kept c.args.stripe row row.sixteen
     (sym c.get.ensures ∙ ap option_copied c.in_ok-row.was)))
