@@ -38,13 +38,21 @@ use Rattle.lrc_rules.proofs.NodeCommandLemmas.{IsAsItWas}
 use Rattle.lrc_rules.proofs.OtherModesLemmas.{changed-same}
 use Rattle.lrc_rules.proofs.PlacedHomesLemmas.{none-added, before-none, homes-append}
 use Rattle.lrc_rules.proofs.CodedLemmas.{code-other, code-left, narrow-left}
-use Rattle.lrc_rules.proofs.StepLemmas.{step-changed}
+use Rattle.lrc_rules.proofs.StepLemmas.{step-changed, refused-keeps}
 use Rattle.lrc_rules.proofs.LookUpLemmas.{is_of, seat_in, find-kept, homes-without}
 use Rattle.lrc_rules.proofs.ToldLemmas.{upgraded-told, upgrade-told}
 use Rattle.lrc_rules.specs.Boards.{loads_of}
 use Rattle.lrc_board.specs.Views.{homes_row}
-use Rattle.lrc_board.specs.Refreshed.{is_seated_on, is_row_on, is_stripe_changed, is_node_changed, stripes_changed_by, nodes_changed_by, are_loads_changed_by}
+use Rattle.lrc_board.specs.Refreshed.{is_seated_on, is_row_on, is_row_changed, is_node_changed, is_flag_changed, OthersStay, stripes_changed_by, nodes_changed_by, are_loads_changed_by, changes_by}
+use Rattle.lrc_board.specs.declared.changes.ChangedNodes.TheVariants.{AllIn}
 use Rattle.lrc_board.proofs.HomesLemmas.{row_with, row_by, row-is, home-in}
+
+-- what one change of a list has not changed
+alone : {b : Bool} → (b || false) ≡ false → b ≡ false
+alone {b} none = by b none where
+  by : (b : Bool) → (b || false) ≡ false → b ≡ false
+  by true none = none
+  by false none = none
 
 -- ---- rows
 
@@ -173,12 +181,12 @@ module _ (nodes : List NodeInfo) (past : List Entry) (st : State) (session : Ses
             let is : h.stripe.value ≡ s.value = eqb-true h.stripe.value s.value (and_parts (eqb h.stripe.value s.value) (eqb h.fragment.value g) hit).0 in
             rw (ne_eqb h.stripe.value r.value (λ e. eqb-false r.value s.value other (sym e ∙ is))) refl
 
-    rows-keep : (c : Command) (r : Reply) → is_stripe_changed (stripes_changed_by c) s (homes_row st s) ≡ false → KeepsRow (changed_by st c r)
-    rows-keep (Place r) (Placed seats) other = place-keeps Wide r seats other
-    rows-keep (Place6 r) (Placed6 seats) other = place-keeps Narrow r seats other
-    rows-keep (Drop r) Dropped other = drop-keeps r other
-    rows-keep (Done r f e) Ended other = done-keeps r f (lease_of st r f) other
-    rows-keep (Fail n) Changed other = fail-keeps st n s (changed_by st (Fail n) Changed) refl refl refl other
+    rows-keep : (c : Command) (r : Reply) → is_row_changed (stripes_changed_by c) s (homes_row st s) ≡ false → KeepsRow (changed_by st c r)
+    rows-keep (Place r) (Placed seats) other = place-keeps Wide r seats (alone other)
+    rows-keep (Place6 r) (Placed6 seats) other = place-keeps Narrow r seats (alone other)
+    rows-keep (Drop r) Dropped other = drop-keeps r (alone other)
+    rows-keep (Done r f e) Ended other = done-keeps r f (lease_of st r f) (alone other)
+    rows-keep (Fail n) Changed other = fail-keeps st n s (changed_by st (Fail n) Changed) refl refl refl (alone other)
     rows-keep c Changed other = row-alike st (changed_by st c Changed) s refl refl (λ f. refl)
     rows-keep _ Idle other = row-alike st st s refl refl (λ f. refl)
     rows-keep c r other = row-alike st (changed_by st c r) s refl refl (λ f. refl)
@@ -197,7 +205,7 @@ module _ (nodes : List NodeInfo) (past : List Entry) (st : State) (session : Ses
         (λ x e. ap (λ (o : Option UpgradeNo). option_map_or (λ u. same_upgrade u x.upgrade) o false) upgrading)
 
     -- a command on another domain
-    domain-keeps : (u : UpgradeNo) (running : Option UpgradeNo) → is_node_changed nodes (nodes_changed_by (Upgrade u)) m ≡ false
+    domain-keeps : (u : UpgradeNo) (running : Option UpgradeNo) → is_node_changed nodes (AllIn u) m ≡ false
         → ((x : NodeInfo) → same_upgrade u x.upgrade ≡ false → option_map_or (λ v. same_upgrade v x.upgrade) running false ≡ is_upgrading st x)
         → KeepsNode (record st { upgrading = running })
     domain-keeps u running none same =
@@ -216,19 +224,19 @@ module _ (nodes : List NodeInfo) (past : List Entry) (st : State) (session : Ses
     done-keeps_node r f None = refl
     done-keeps_node r f (Some l) = online-alike nodes st (with_done st r f (Some l)) m refl refl (λ x e. refl)
 
-    nodes-keep : (c : Command) (r : Reply) → (step nodes past st session c).0 ≡ r → is_node_changed nodes (nodes_changed_by c) m ≡ false
+    nodes-keep : (c : Command) (r : Reply) → (step nodes past st session c).0 ≡ r → is_flag_changed nodes (nodes_changed_by c) m ≡ false
         → KeepsNode (changed_by st c r)
     nodes-keep (Done r f e) Ended told other = done-keeps_node r f (lease_of st r f)
-    nodes-keep (Fail n) Changed told other = node-keeps (changed_by st (Fail n) Changed) (changed-same st m (Fail n) Changed (apart-from n other)) refl
-    nodes-keep (Down n) Changed told other = node-keeps (changed_by st (Down n) Changed) (changed-same st m (Down n) Changed (apart-from n other)) refl
-    nodes-keep (Up n) Changed told other = node-keeps (changed_by st (Up n) Changed) (changed-same st m (Up n) Changed (apart-from n other)) refl
-    nodes-keep (Retire n) Changed told other = node-keeps (changed_by st (Retire n) Changed) (changed-same st m (Retire n) Changed (apart-from n other)) refl
-    nodes-keep (Join n) Changed told other = node-keeps (changed_by st (Join n) Changed) (changed-same st m (Join n) Changed (apart-from n other)) refl
+    nodes-keep (Fail n) Changed told other = node-keeps (changed_by st (Fail n) Changed) (changed-same st m (Fail n) Changed (apart-from n (alone other))) refl
+    nodes-keep (Down n) Changed told other = node-keeps (changed_by st (Down n) Changed) (changed-same st m (Down n) Changed (apart-from n (alone other))) refl
+    nodes-keep (Up n) Changed told other = node-keeps (changed_by st (Up n) Changed) (changed-same st m (Up n) Changed (apart-from n (alone other))) refl
+    nodes-keep (Retire n) Changed told other = node-keeps (changed_by st (Retire n) Changed) (changed-same st m (Retire n) Changed (apart-from n (alone other))) refl
+    nodes-keep (Join n) Changed told other = node-keeps (changed_by st (Join n) Changed) (changed-same st m (Join n) Changed (apart-from n (alone other))) refl
     nodes-keep (Upgrade u) Changed told other =
-        domain-keeps u (Some u) other
+        domain-keeps u (Some u) (alone other)
         (λ x away. away ∙ sym (ap (λ (o : Option UpgradeNo). option_map_or (λ v. same_upgrade v x.upgrade) o false) (upgrade-told nodes st u told)))
     nodes-keep (Upgraded u) Changed told other =
-        domain-keeps u None other
+        domain-keeps u None (alone other)
         (λ x away. sym (ap (λ (o : Option UpgradeNo). option_map_or (λ v. same_upgrade v x.upgrade) o false) (upgraded-told nodes st u told) ∙ away))
     nodes-keep c Changed told other = online-alike nodes st (changed_by st c Changed) m refl refl (λ x e. refl)
     nodes-keep _ Idle told other = refl
@@ -245,14 +253,34 @@ module _ (nodes : List NodeInfo) (past : List Entry) (st : State) (session : Ses
   loads-keep c r same = absurd (cc)
 
   -- a command leaves all else as it was
-  pub row-stays : (s : StripeNo) (c : Command) → is_stripe_changed (stripes_changed_by c) s (homes_row st s) ≡ false
+  row-stays : (s : StripeNo) (c : Command) → is_row_changed (stripes_changed_by c) s (homes_row st s) ≡ false
       → homes_row (step nodes past st session c).1 s ≡ homes_row st s
   row-stays s c other = subst (KeepsRow s) (sym (step-changed nodes past st session c)) (rows-keep s c (step nodes past st session c).0 other)
 
-  pub node-stays : (m : NodeNo) (c : Command) → is_node_changed nodes (nodes_changed_by c) m ≡ false
+  node-stays : (m : NodeNo) (c : Command) → is_flag_changed nodes (nodes_changed_by c) m ≡ false
       → online_at nodes (step nodes past st session c).1 m ≡ online_at nodes st m
   node-stays m c other = subst (KeepsNode m) (sym (step-changed nodes past st session c)) (nodes-keep m c (step nodes past st session c).0 refl other)
 
-  pub loads-stay : (c : Command) → are_loads_changed_by c (step nodes past st session c).0 ≡ false
+  loads-stay : (c : Command) → are_loads_changed_by c (step nodes past st session c).0 ≡ false
       → loads_of nodes (step nodes past st session c).1 ≡ loads_of nodes st
   loads-stay c same = subst KeepsLoads (sym (step-changed nodes past st session c)) (loads-keep c (step nodes past st session c).0 same)
+
+  -- what a step may have changed is that of its command and its reply
+  pub step-stays : (c : Command) → OthersStay nodes (changes_by c (step nodes past st session c).0) st (step nodes past st session c).1
+  step-stays c = by (step nodes past st session c).0 refl where
+    next : State
+    next = (step nodes past st session c).1
+
+    by : (r : Reply) → (step nodes past st session c).0 ≡ r → OthersStay nodes (changes_by c r) st next
+    by (Refused why) told =
+        let same = refused-keeps nodes past st session c why told in
+        record {
+          rows = λ s unchanged. ap (λ (x : State). homes_row x s) same;
+          online = λ n unchanged. ap (λ (x : State). online_at nodes x n) same;
+          loads = λ unchanged. ap (loads_of nodes) same;
+        }
+    by r told = record {
+      rows = λ s unchanged. row-stays s c unchanged;
+      online = λ n unchanged. node-stays n c unchanged;
+      loads = λ unchanged. loads-stay c (ap (are_loads_changed_by c) told ∙ unchanged);
+    }

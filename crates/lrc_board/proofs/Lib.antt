@@ -1,3 +1,4 @@
+pub mod BatchLemmas
 pub mod BoardLemmas
 pub mod ChangesLemmas
 pub mod EmptyLemmas

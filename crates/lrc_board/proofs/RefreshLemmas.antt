@@ -1,8 +1,9 @@
 -- What a board copies from a book.
 use Rattle.std.specs.Prelude.{slice_set, IsFalse}
-use Rattle.std.proofs.Common.{◌≡◌, ◌≢◌, ℕ, ◌+◌, ◌<◌, ◌≤◌, ◌||◌, Bool, true, false, if◌then◌else◌, List, [], ◌∷◌, length, map, drop, get_or, Option, None, refl, sym, ap, ◌∙◌, inl, inr, arith, length-set}
+use Rattle.std.proofs.Common.{◌≡◌, ◌≢◌, ℕ, ◌+◌, ◌<◌, ◌≤◌, ◌||◌, Bool, true, false, if◌then◌else◌, List, [], ◌∷◌, length, map, fold, drop, get_or, Option, None, refl, sym, ap, ◌∙◌, inl, inr, arith, length-set}
 use Rattle.std.specs.List.{list_any, range_with_len}
 use Rattle.std.proofs.lemmas.Bool.{cases_Bool, cases_eq, eqb-true, eqb-false}
+use Rattle.std.proofs.lemmas.List.Folds.{list_any-append}
 use Rattle.std.proofs.lemmas.List.{drop_more, drop_all, get_or-set_same, get_or-set_other}
 use Rattle.std.proofs.lemmas.List.FromFn.{fill_by_all, length-map-range_with_len, get_or-map-range_with_len}
 use Rattle.lrc_code.specs.declared.numbers.StripeNo.{StripeNo}
@@ -16,16 +17,28 @@ use Rattle.lrc_rules.specs.States.{State, online_at}
 use Rattle.lrc_rules.specs.Boards.{loads_by, loads_of}
 use Rattle.lrc_board.specs.declared.stripe_homes.StripeHomes.{StripeHomes}
 use Rattle.lrc_board.specs.declared.changes.ChangedStripes.{ChangedStripes}
-use Rattle.lrc_board.specs.declared.changes.ChangedStripes.TheVariants.{NoStripe, Stripe, AllOn}
+use Rattle.lrc_board.specs.declared.changes.ChangedStripes.TheVariants.{Stripe, AllOn}
 use Rattle.lrc_board.specs.declared.changes.ChangedNodes.{ChangedNodes}
-use Rattle.lrc_board.specs.declared.changes.ChangedNodes.TheVariants.{NoNode, Node, AllIn}
-use Rattle.lrc_board.specs.declared.changes.Changes.{Changes}
+use Rattle.lrc_board.specs.declared.changes.ChangedNodes.TheVariants.{Node, AllIn}
 use Rattle.lrc_board.specs.Views.{Rows, homes_row, rows_of, online_of}
 use Rattle.lrc_board.specs.Looks.{homes_in}
-use Rattle.lrc_board.specs.Refreshed.{is_row_on, is_stripe_changed, is_node_changed, OthersStay, row_anew, rows_anew_on, rows_refreshed, flag_anew, put_flags, online_refreshed, loads_refreshed}
+use Rattle.lrc_board.specs.Refreshed.{is_row_on, is_stripe_changed, is_row_changed, is_node_changed, is_flag_changed, ChangesView, both_changes, OthersStay, row_anew, rows_anew_on, rows_anew, rows_refreshed, flag_anew, put_flags, online_anew, online_refreshed, loads_refreshed}
 use Rattle.lrc_board.proofs.HomesLemmas.{own-number, row-of, rows-long, flag-at, online-long}
 
 -- ---- rows
+
+-- one more of a list is folded
+pub fold-next : {A B : Type 0} (f : B → A → B) (xs : List A) (now next : B) (i : ℕ) (d : A) → i < length xs → next ≡ f now (get_or xs i d)
+    → fold f next (drop (i + 1) xs) ≡ fold f now (drop i xs)
+fold-next f xs now next i d within is = ap (λ b. fold f b (drop (i + 1) xs)) is ∙ sym (ap (fold f now) (drop_more xs i d within))
+
+pub fold-all : {A B : Type 0} (f : B → A → B) (xs : List A) (now : B) (i : ℕ) → length xs ≤ i → fold f now (drop i xs) ≡ now
+fold-all f xs now i past = ap (fold f now) (drop_all i xs past)
+
+-- what has not changed may be put or not
+right : {X : Type 0} (b : Bool) (new old : X) → (IsFalse b → new ≡ old) → (if b then new else old) ≡ new
+right true new old same = refl
+right false new old same = sym (same refl)
 
 -- each row of the list is this one, so the list is that of the state
 rows-are : (st : State) (rows : Rows) → length rows ≡ 4096 → ((s : StripeNo) → homes_in rows s ≡ homes_row st s) → rows ≡ rows_of st
@@ -46,20 +59,11 @@ module _ (rows : Rows) (r : StripeNo) (row : Option StripeHomes) (long : length 
   row-left : (s : StripeNo) → s.value ≢ r.value → homes_in (slice_set rows r.value row) s ≡ homes_in rows s
   row-left s other = get_or-set_other rows r.value s.value row None other
 
--- a row that is that of the state or may have changed becomes that of the state
-anew-right : (st : State) (changed : ChangedStripes) (s : StripeNo) (row : Option StripeHomes)
-    → (IsFalse (is_stripe_changed changed s row) → row ≡ homes_row st s) → row_anew st changed s row ≡ homes_row st s
-anew-right st changed s row right = by (is_stripe_changed changed s row) right where
-  by : (b : Bool) → (IsFalse b → row ≡ homes_row st s) → (if b then homes_row st s else row) ≡ homes_row st s
-  by true right = refl
-  by false right = right refl
-
 -- the row of each stripe after an update
-pub row-refreshed : (st : State) (changed : ChangedStripes) (rows : Rows) → length rows ≡ 4096 → (s : StripeNo)
-    → homes_in (rows_refreshed st changed rows) s ≡ row_anew st changed s (homes_in rows s)
+row-anew : (st : State) (changed : ChangedStripes) (rows : Rows) → length rows ≡ 4096 → (s : StripeNo)
+    → homes_in (rows_anew st changed rows) s ≡ row_anew st changed s (homes_in rows s)
 unfolding rows_anew_on
-row-refreshed st NoStripe rows long s = refl
-row-refreshed st (Stripe r) rows long s = elim (cases_Bool (same_stripe r s)) [
+row-anew st (Stripe r) rows long s = elim (cases_Bool (same_stripe r s)) [
   | inl hit ↦
       let same : r.value ≡ s.value = eqb-true r.value s.value hit in
       row-set rows r (homes_row st r) long s (sym same) ∙ ap (homes_row st) (equal_stripes r s same)
@@ -68,7 +72,7 @@ row-refreshed st (Stripe r) rows long s = elim (cases_Bool (same_stripe r s)) [
       row-left rows r (homes_row st r) long s (λ e. eqb-false r.value s.value miss (sym e))
       ∙ sym (ap (λ (b : Bool). if b then homes_row st s else homes_in rows s) miss)
 ]
-row-refreshed st (AllOn n) rows long s = anew-at 4096 s s.in_range where
+row-anew st (AllOn n) rows long s = anew-at 4096 s s.in_range where
   anew-at : (count : ℕ) (s : StripeNo) → s.value < count
       → get_or (map (λ k. row_anew st (AllOn n) (stripe_at k) (get_or rows k None)) (range_with_len 0 count)) s.value None ≡ row_anew st (AllOn n) s (homes_in rows s)
   anew-at count s within =
@@ -79,30 +83,44 @@ anew-long : (st : State) (n : NodeNo) (rows : Rows) → length (rows_anew_on st 
 unfolding rows_anew_on
 anew-long st n rows = length-map-range_with_len (λ k. row_anew st (AllOn n) (stripe_at k) (get_or rows k None)) 0 4096
 
-pub refreshed-long : (st : State) (changed : ChangedStripes) (rows : Rows) → length rows ≡ 4096 → length (rows_refreshed st changed rows) ≡ 4096
-refreshed-long st NoStripe rows long = long
-refreshed-long st (Stripe r) rows long = length-set rows r.value (homes_row st r) ∙ long
-refreshed-long st (AllOn n) rows long = anew-long st n rows
+rows-anew_long : (st : State) (changed : ChangedStripes) (rows : Rows) → length rows ≡ 4096 → length (rows_anew st changed rows) ≡ 4096
+rows-anew_long st (Stripe r) rows long = length-set rows r.value (homes_row st r) ∙ long
+rows-anew_long st (AllOn n) rows long = anew-long st n rows
 
--- a board that lacks two steps has the rows of the last state after it copies what each of them may have changed
-pub twice-rows : (nodes : List NodeInfo) (first second third : State) (last now : Changes)
-    → OthersStay nodes last first second → OthersStay nodes now second third
-    → rows_refreshed third now.stripes (rows_refreshed third last.stripes (rows_of first)) ≡ rows_of third
-twice-rows nodes first second third last now a b =
-    let rows = rows_of first in
-    let once = rows_refreshed third last.stripes rows in
-    let long = refreshed-long third last.stripes rows (rows-long first) in
-    rows-are third (rows_refreshed third now.stripes once) (refreshed-long third now.stripes once long)
-    (λ s. row-refreshed third now.stripes once long s
-    ∙ ap (row_anew third now.stripes s) (row-refreshed third last.stripes rows (rows-long first) s ∙ ap (row_anew third last.stripes s) (row-of first s))
-    ∙ own s (is_stripe_changed last.stripes s (homes_row first s)) refl)
+pub refreshed-long : (st : State) (changes : List ChangedStripes) (rows : Rows) → length rows ≡ 4096 → length (rows_refreshed st changes rows) ≡ 4096
+refreshed-long st [] rows long = long
+refreshed-long st (c ∷ cs) rows long = refreshed-long st cs (rows_anew st c rows) (rows-anew_long st c rows long)
+
+-- the row of each stripe after some updates: that of the state where one of them may have changed the row before
+row-refreshed : (st : State) (changes : List ChangedStripes) (rows : Rows) → length rows ≡ 4096 → (s : StripeNo)
+    → homes_in (rows_refreshed st changes rows) s ≡ (if is_row_changed changes s (homes_in rows s) then homes_row st s else homes_in rows s)
+row-refreshed st [] rows long s = refl
+row-refreshed st (c ∷ cs) rows long s =
+    row-refreshed st cs (rows_anew st c rows) (rows-anew_long st c rows long) s
+    ∙ ap (λ row. if is_row_changed cs s row then homes_row st s else row) (row-anew st c rows long s)
+    ∙ by (is_stripe_changed c s (homes_in rows s))
   where
-    own : (s : StripeNo) (changed : Bool) → is_stripe_changed last.stripes s (homes_row first s) ≡ changed
-        → row_anew third now.stripes s (if changed then homes_row third s else homes_row first s) ≡ homes_row third s
-    own s true is = anew-right third now.stripes s (homes_row third s) (λ stays. refl)
-    own s false is =
-        ap (row_anew third now.stripes s) (sym (a.rows s is))
-        ∙ anew-right third now.stripes s (homes_row second s) (λ stays. sym (b.rows s stays))
+    anew : Bool → Option StripeHomes
+    anew b = if b then homes_row st s else homes_in rows s
+
+    same : (b : Bool) → (if b then homes_row st s else homes_row st s) ≡ homes_row st s
+    same true = refl
+    same false = refl
+
+    by : (b : Bool) → (if is_row_changed cs s (anew b) then homes_row st s else anew b)
+        ≡ (if b || is_row_changed cs s (homes_in rows s) then homes_row st s else homes_in rows s)
+    by true = same (is_row_changed cs s (homes_row st s))
+    by false = refl
+
+-- rows of one state become those of another where these changes leave the others
+pub rows-right : (nodes : List NodeInfo) (was now : State) (changes : ChangesView) → OthersStay nodes changes was now
+    → rows_refreshed now changes.stripes (rows_of was) ≡ rows_of now
+rows-right nodes was now changes stay =
+    rows-are now (rows_refreshed now changes.stripes (rows_of was)) (refreshed-long now changes.stripes (rows_of was) (rows-long was))
+    (λ s.
+    row-refreshed now changes.stripes (rows_of was) (rows-long was) s
+    ∙ ap (λ row. if is_row_changed changes.stripes s row then homes_row now s else row) (row-of was s)
+    ∙ right (is_row_changed changes.stripes s (homes_row was s)) (homes_row now s) (homes_row was s) (stay.rows s))
 
 -- the rows below a number are new where they have a home on the node, and the others are old
 pub record AreAnewBelow (st : State) (n : NodeNo) (k : ℕ) (was rows : Rows) : Type 0 where
@@ -194,21 +212,16 @@ module _ (test : NodeNo → Bool) where
             ∙ sym (ap (λ (b : Bool). if b || list_any (λ x. same_node n x.number) ms then test n else get_or flags n.value false) miss)
       ]
 
-  -- one more node of a list is put
-  pub put-next : (nodes : List NodeInfo) (flags next : List Bool) (i : ℕ) (d : NodeInfo) → i < length nodes
-      → next ≡ slice_set flags (get_or nodes i d).number.value (test (get_or nodes i d).number)
-      → put_flags test next (drop (i + 1) nodes) ≡ put_flags test flags (drop i nodes)
-  put-next nodes flags next i d within is =
-      ap (λ (fs : List Bool). put_flags test fs (drop (i + 1) nodes)) is ∙ sym (ap (put_flags test flags) (drop_more nodes i d within))
-
-  pub put-all : (nodes : List NodeInfo) (flags : List Bool) (i : ℕ) → length nodes ≤ i → put_flags test flags (drop i nodes) ≡ flags
-  put-all nodes flags i past = ap (put_flags test flags) (drop_all i nodes past)
+-- what is put at first, or later, is put
+put-twice : (first later : Bool) (new old : Bool) → (if later then new else (if first then new else old)) ≡ (if first || later then new else old)
+put-twice true true new old = refl
+put-twice true false new old = refl
+put-twice false later new old = refl
 
 -- the flag of each number after an update
-flag-refreshed : (nodes : List NodeInfo) (st : State) (changed : ChangedNodes) (flags : List Bool) (n : NodeNo) → n.value < length flags
-    → get_or (online_refreshed nodes st changed flags) n.value false ≡ flag_anew nodes st changed n (get_or flags n.value false)
-flag-refreshed nodes st NoNode flags n within = refl
-flag-refreshed nodes st (Node m) flags n within = elim (cases_Bool (same_node n m)) [
+flag-anew : (nodes : List NodeInfo) (st : State) (changed : ChangedNodes) (flags : List Bool) (n : NodeNo) → n.value < length flags
+    → get_or (online_anew nodes st changed flags) n.value false ≡ flag_anew nodes st changed n (get_or flags n.value false)
+flag-anew nodes st (Node m) flags n within = elim (cases_Bool (same_node n m)) [
   | inl hit ↦
       let same : n.value ≡ m.value = eqb-true n.value m.value hit in
       ap (λ (k : ℕ). get_or (slice_set flags m.value (online_at nodes st m)) k false) same
@@ -219,42 +232,39 @@ flag-refreshed nodes st (Node m) flags n within = elim (cases_Bool (same_node n 
       get_or-set_other flags m.value n.value (online_at nodes st m) false (eqb-false n.value m.value miss)
       ∙ sym (ap (λ (b : Bool). if b then online_at nodes st n else get_or flags n.value false) miss)
 ]
-flag-refreshed nodes st (AllIn u) flags n within = put-at (online_at nodes st) (nodes_in nodes u) flags n within
+flag-anew nodes st (AllIn u) flags n within = put-at (online_at nodes st) (nodes_in nodes u) flags n within
 
-pub online-refreshed_long : (nodes : List NodeInfo) (st : State) (changed : ChangedNodes) (flags : List Bool)
-    → length (online_refreshed nodes st changed flags) ≡ length flags
-online-refreshed_long nodes st NoNode flags = refl
-online-refreshed_long nodes st (Node m) flags = length-set flags m.value (online_at nodes st m)
-online-refreshed_long nodes st (AllIn u) flags = put-long (online_at nodes st) (nodes_in nodes u) flags
+online-anew_long : (nodes : List NodeInfo) (st : State) (changed : ChangedNodes) (flags : List Bool)
+    → length (online_anew nodes st changed flags) ≡ length flags
+online-anew_long nodes st (Node m) flags = length-set flags m.value (online_at nodes st m)
+online-anew_long nodes st (AllIn u) flags = put-long (online_at nodes st) (nodes_in nodes u) flags
 
--- a flag that is that of the state or may have changed becomes that of the state
-flag-right : (nodes : List NodeInfo) (st : State) (changed : ChangedNodes) (n : NodeNo) (flag : Bool)
-    → (IsFalse (is_node_changed nodes changed n) → flag ≡ online_at nodes st n) → flag_anew nodes st changed n flag ≡ online_at nodes st n
-flag-right nodes st changed n flag right = by (is_node_changed nodes changed n) right where
-  by : (b : Bool) → (IsFalse b → flag ≡ online_at nodes st n) → (if b then online_at nodes st n else flag) ≡ online_at nodes st n
-  by true right = refl
-  by false right = right refl
+pub online-refreshed_long : (nodes : List NodeInfo) (st : State) (changes : List ChangedNodes) (flags : List Bool)
+    → length (online_refreshed nodes st changes flags) ≡ length flags
+online-refreshed_long nodes st [] flags = refl
+online-refreshed_long nodes st (c ∷ cs) flags = online-refreshed_long nodes st cs (online_anew nodes st c flags) ∙ online-anew_long nodes st c flags
 
--- a board that lacks two steps knows the nodes that are online in the last state after it copies what each of them may have changed
-pub twice-online : (nodes : List NodeInfo) (first second third : State) (last now : Changes)
-    → OthersStay nodes last first second → OthersStay nodes now second third
-    → online_refreshed nodes third now.nodes (online_refreshed nodes third last.nodes (online_of nodes first)) ≡ online_of nodes third
-twice-online nodes first second third last now a b =
-    let flags = online_of nodes first in
-    let once = online_refreshed nodes third last.nodes flags in
-    let long : length once ≡ 65536 = online-refreshed_long nodes third last.nodes flags ∙ online-long nodes first in
-    flags-are nodes third (online_refreshed nodes third now.nodes once) (online-refreshed_long nodes third now.nodes once ∙ long)
+-- the flag of each number after some updates
+flag-refreshed : (nodes : List NodeInfo) (st : State) (changes : List ChangedNodes) (flags : List Bool) (n : NodeNo) → n.value < length flags
+    → get_or (online_refreshed nodes st changes flags) n.value false
+    ≡ (if is_flag_changed nodes changes n then online_at nodes st n else get_or flags n.value false)
+flag-refreshed nodes st [] flags n within = refl
+flag-refreshed nodes st (c ∷ cs) flags n within =
+    flag-refreshed nodes st cs (online_anew nodes st c flags) n (let long = online-anew_long nodes st c flags in omega (arith, long, within))
+    ∙ ap (λ (flag : Bool). if is_flag_changed nodes cs n then online_at nodes st n else flag) (flag-anew nodes st c flags n within)
+    ∙ put-twice (is_node_changed nodes c n) (is_flag_changed nodes cs n) (online_at nodes st n) (get_or flags n.value false)
+
+-- flags of one state become those of another where these changes leave the others
+pub online-right : (nodes : List NodeInfo) (was now : State) (changes : ChangesView) → OthersStay nodes changes was now
+    → online_refreshed nodes now changes.nodes (online_of nodes was) ≡ online_of nodes now
+online-right nodes was now changes stay =
+    let flags = online_of nodes was in
+    flags-are nodes now (online_refreshed nodes now changes.nodes flags) (online-refreshed_long nodes now changes.nodes flags ∙ online-long nodes was)
     (λ k within.
     let n : NodeNo = record { value = k } in
-    flag-refreshed nodes third now.nodes once n (omega (arith, within, long))
-    ∙ ap (flag_anew nodes third now.nodes n) (flag-refreshed nodes third last.nodes flags n (let all = online-long nodes first in omega (arith, within, all))
-    ∙ ap (flag_anew nodes third last.nodes n) (flag-at nodes first k within))
-    ∙ own n (is_node_changed nodes last.nodes n) refl)
-  where
-    own : (n : NodeNo) (changed : Bool) → is_node_changed nodes last.nodes n ≡ changed
-        → flag_anew nodes third now.nodes n (if changed then online_at nodes third n else online_at nodes first n) ≡ online_at nodes third n
-    own n true is = flag-right nodes third now.nodes n (online_at nodes third n) (λ stays. refl)
-    own n false is = flag-right nodes third now.nodes n (online_at nodes first n) (λ stays. sym (b.online n stays ∙ a.online n is))
+    flag-refreshed nodes now changes.nodes flags n (let all = online-long nodes was in omega (arith, within, all))
+    ∙ ap (λ (flag : Bool). if is_flag_changed nodes changes.nodes n then online_at nodes now n else flag) (flag-at nodes was k within)
+    ∙ right (is_flag_changed nodes changes.nodes n) (online_at nodes now n) (online_at nodes was n) (stay.online n))
 
 -- ---- loads
 
@@ -262,13 +272,30 @@ pub loads-whole : (nodes : List NodeInfo) (loads : NodeNo → ℕ) → map (λ r
 loads-whole [] loads = refl
 loads-whole (m ∷ ms) loads = ap (λ (ns : List NodeNo). m.number ∷ ns) (loads-whole ms loads)
 
--- a board that lacks two steps has the loads of the last state after it copies them if one of these may have changed them
-pub twice-loads : (nodes : List NodeInfo) (first second third : State) (last now : Changes)
-    → OthersStay nodes last first second → OthersStay nodes now second third
-    → loads_refreshed nodes third (last.loads || now.loads) (loads_of nodes first) ≡ loads_of nodes third
-twice-loads nodes first second third last now a b = by last.loads now.loads a.loads b.loads where
-  by : (p q : Bool) → (IsFalse p → loads_of nodes second ≡ loads_of nodes first) → (IsFalse q → loads_of nodes third ≡ loads_of nodes second)
-      → loads_refreshed nodes third (p || q) (loads_of nodes first) ≡ loads_of nodes third
-  by true q one other = refl
-  by false true one other = refl
-  by false false one other = sym (other refl ∙ one refl)
+-- loads of one state become those of another where these changes leave the others
+pub loads-right : (nodes : List NodeInfo) (was now : State) (changes : ChangesView) → OthersStay nodes changes was now
+    → loads_refreshed nodes now changes.loads (loads_of nodes was) ≡ loads_of nodes now
+loads-right nodes was now changes stay = right changes.loads (loads_of nodes now) (loads_of nodes was) stay.loads
+
+-- ---- two batches
+
+-- what neither has changed stays
+pub stays-both : (nodes : List NodeInfo) (first second third : State) (a b : ChangesView) → OthersStay nodes a first second → OthersStay nodes b second third
+    → OthersStay nodes (both_changes a b) first third
+stays-both nodes first second third a b one other = record {
+  rows = λ s unchanged.
+      let row = homes_row first s in
+      let parts = or_false (is_row_changed a.stripes s row) (is_row_changed b.stripes s row)
+      (sym (list_any-append (λ c. is_stripe_changed c s row) a.stripes b.stripes) ∙ unchanged) in
+      let at : homes_row second s ≡ row = one.rows s parts.0 in
+      other.rows s (ap (is_row_changed b.stripes s) at ∙ parts.1) ∙ at;
+  online = λ n unchanged.
+      let parts = or_false (is_flag_changed nodes a.nodes n) (is_flag_changed nodes b.nodes n)
+      (sym (list_any-append (λ c. is_node_changed nodes c n) a.nodes b.nodes) ∙ unchanged) in
+      other.online n parts.1 ∙ one.online n parts.0;
+  loads = λ unchanged. let parts = or_false a.loads b.loads unchanged in other.loads parts.1 ∙ one.loads parts.0;
+}
+  where
+    or_false : (p q : Bool) → (p || q) ≡ false → (p ≡ false) × (q ≡ false)
+    or_false true q none = absurd (cc (none))
+    or_false false q none = (refl, none)

@@ -1,7 +1,7 @@
 -- The steps of a log keep its rule, and what they prove of the entries that were written.
 use Rattle.std.proofs.Common.{◌≡◌, ℕ, zero, suc, ◌<◌, ◌==◌, Bool, true, false, cond, List, [], ◌∷◌, ◌++◌, length, slice_set, None}
 use Rattle.std.proofs.Common.{refl, sym, ap, ◌∙◌, subst, arith, inl}
-use Rattle.std.proofs.lemmas.List.{append-nil, length-set}
+use Rattle.std.proofs.lemmas.List.{append-nil, append_assoc, length-set}
 use Rattle.std.proofs.lemmas.Bool.Decides.{nat_tests}
 use mathlib.Core.List.{IsPrefix}
 use prog.Atomic.{either}
@@ -113,7 +113,7 @@ append_moves v p ask may cs log kept pre away =
     let n : ℕ = either ((cell cs 0).0 == 0) 0 (cell cs 0).0 in
     let first : List Cell = slice_set cs 0 (n, true) in
     let then : List Cell = slice_set first p.key (p.value, true) in
-    let line : Line = record { entry = ask.entry; by = p.key; next = ask.next } in (
+    let line : Line = record { entries = ask.entries; by = p.key; next = ask.next } in (
       returned_inside cs 0 kept.word,
       kept.word,
       (
@@ -140,9 +140,9 @@ written_append permit (l ∷ ls) ys = by_test (l.by == permit) l permit ls ys (w
   by_test : (b : Bool) (l : Line) (permit : ℕ) (ls ys : List Line)
       → written l.next (ls ++ ys) ≡ written l.next ls ++ written (permit_after l.next ls) ys
       → written permit (ls ++ ys) ≡ written permit ls ++ written (permit_after permit ls) ys
-      → cond b (l.entry ∷ written l.next (ls ++ ys)) (written permit (ls ++ ys))
-      ≡ cond b (l.entry ∷ written l.next ls) (written permit ls) ++ written (cond b (permit_after l.next ls) (permit_after permit ls)) ys
-  by_test true l permit ls ys this that = ap (λ (es : List Entry). l.entry ∷ es) this
+      → cond b (l.entries ++ written l.next (ls ++ ys)) (written permit (ls ++ ys))
+      ≡ cond b (l.entries ++ written l.next ls) (written permit ls) ++ written (cond b (permit_after l.next ls) (permit_after permit ls)) ys
+  by_test true l permit ls ys this that = ap (λ (es : List Entry). l.entries ++ es) this ∙ sym (append_assoc l.entries (written l.next ls) (written (permit_after l.next ls) ys))
   by_test false l permit ls ys this that = that
 
 pub permit_append : (permit : ℕ) (xs ys : List Line) → permit_after permit (xs ++ ys) ≡ permit_after (permit_after permit xs) ys
@@ -179,12 +179,12 @@ pub covered : (start permit : ℕ) (prefix seen log : List Line) → permit_afte
 covered start permit prefix seen log at own other unused =
     subst (IsPrefix (written start seen)) (passed start permit prefix log at own unused).0 (written_prefix start seen log other)
 
-one_line : (permit : ℕ) (l : Line) → l.by ≡ permit → (written permit (l ∷ []) ≡ l.entry ∷ []) × (permit_after permit (l ∷ []) ≡ l.next)
-one_line permit l is = let yes : (l.by == permit) ≡ true = grind (arith, nat_tests) in rw yes (refl, refl)
+one_line : (permit : ℕ) (l : Line) → l.by ≡ permit → (written permit (l ∷ []) ≡ l.entries) × (permit_after permit (l ∷ []) ≡ l.next)
+one_line permit l is = let yes : (l.by == permit) ≡ true = grind (arith, nat_tests) in rw yes (append-nil l.entries, refl)
 
--- a line that the permit writes adds its entry
+-- a line that the permit writes adds its entries
 added : (start permit : ℕ) (seen log new : List Line) (l : Line) → permit_after start seen ≡ permit → IsPrefix seen log → IsUnused permit log
-    → l.by ≡ permit → new ≡ log ++ l ∷ [] → (permit_after start new ≡ l.next) × (written start new ≡ written start seen ++ l.entry ∷ [])
+    → l.by ≡ permit → new ≡ log ++ l ∷ [] → (permit_after start new ≡ l.next) × (written start new ≡ written start seen ++ l.entries)
 added start permit seen log new l at pre unused by is =
     let before = passed start permit seen log at pre unused in let one = one_line permit l by in (
       ap (permit_after start) is ∙ (permit_append start log (l ∷ []) ∙ (ap (λ (k : ℕ). permit_after k (l ∷ [])) before.1 ∙ one.1)),
@@ -193,9 +193,9 @@ added start permit seen log new l at pre unused by is =
     )
 
 -- the same for the line that a step asks for
-pub asked_added : (start permit : ℕ) (seen log new : List Line) (ask : Line) (entry : Entry) (next : ℕ) → permit_after start seen ≡ permit → IsPrefix seen log
-    → IsUnused permit log → ask ≡ record { entry = entry; by = 0; next = next } → new ≡ log ++ record { entry = ask.entry; by = permit; next = ask.next } ∷ []
-    → (permit_after start new ≡ next) × (written start new ≡ written start seen ++ entry ∷ [])
-asked_added start permit seen log new ask entry next at pre unused asked is =
-    added start permit seen log new (record { entry = entry; by = permit; next = next }) at pre unused refl
-    (is ∙ (λ k. log ++ record { entry = (asked k).entry; by = permit; next = (asked k).next } ∷ []))
+pub asked_added : (start permit : ℕ) (seen log new : List Line) (ask : Line) (entries : List Entry) (next : ℕ) → permit_after start seen ≡ permit → IsPrefix seen log
+    → IsUnused permit log → ask ≡ record { entries = entries; by = 0; next = next } → new ≡ log ++ record { entries = ask.entries; by = permit; next = ask.next } ∷ []
+    → (permit_after start new ≡ next) × (written start new ≡ written start seen ++ entries)
+asked_added start permit seen log new ask entries next at pre unused asked is =
+    added start permit seen log new (record { entries = entries; by = permit; next = next }) at pre unused refl
+    (is ∙ (λ k. log ++ record { entries = (asked k).entries; by = permit; next = (asked k).next } ∷ []))

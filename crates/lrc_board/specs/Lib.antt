@@ -8,6 +8,7 @@ pub use Rattle.lrc_rules.specs.Urgency
 pub use Rattle.lrc_rules.specs.Histories
 pub use Rattle.lrc_rules.specs.Boards
 pub use Rattle.lrc_book.specs.Books
+pub mod Batches
 pub mod Lines
 pub mod Looks
 pub mod Refreshed

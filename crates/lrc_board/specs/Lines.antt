@@ -1,21 +1,18 @@
 -- A log of lines. A permit is the right to write one line. Each line names the permit for the next line.
 use Rattle.std.specs.Prelude.{◌≡◌, ◌≢◌, ℕ, ◌==◌, cond, true, List, [], ◌∷◌, ◌++◌}
-use Rattle.std.proofs.Common.{lit≤}
 use mathlib.Core.List.{IsPrefix}
 use Rattle.logbook.specs.Pages.{Cell, cell, Step, View, Book, Named, may_make}
 use Rattle.lrc_rules.specs.declared.entry.Entry.{Entry}
-use Rattle.lrc_rules.specs.declared.command.Command.TheVariants.{Next}
-use Rattle.lrc_rules.specs.declared.reply.Reply.TheVariants.{Idle}
 use Rattle.lrc_board.specs.declared.line.Line.{Line}
 
 -- (internal) the request of a step that writes no line
 abbrev pub no_line : Line
-no_line = record { entry = record { session = record { value = 1; in_range = (lit≤ tt, lit≤ tt) }; command = Next; reply = Idle }; by = 0; next = 0 }
+no_line = record { entries = []; by = 0; next = 0 }
 
 -- the entries that were written by this permit and those after it
 abbrev pub written : ℕ → List Line → List Entry
 written permit [] = []
-written permit (l ∷ ls) = cond (l.by == permit) (l.entry ∷ written l.next ls) (written permit ls)
+written permit (l ∷ ls) = cond (l.by == permit) (l.entries ++ written l.next ls) (written permit ls)
 
 -- (internal) the permit for the next line
 abbrev pub permit_after : ℕ → List Line → ℕ
@@ -54,4 +51,4 @@ FindsUnused s v found w = IsUnused v.1.0.key w.0 × (w.1.0 ≡ v.1.0)
 abbrev pub AppendsLine : Step Line → View Line ℕ → ℕ → View Line ℕ → Type 0
 AppendsLine s v found w =
     (log : List Line) × IsPrefix v.0 log × IsUnused v.1.0.key log
-    × (w.0 ≡ log ++ record { entry = s.ask.entry; by = v.1.0.key; next = s.ask.next } ∷ [])
+    × (w.0 ≡ log ++ record { entries = s.ask.entries; by = v.1.0.key; next = s.ask.next } ∷ [])

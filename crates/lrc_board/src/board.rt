@@ -5,7 +5,7 @@ ghost use Rattle.lrc_book.specs.Books.{state_of};
 ghost use Rattle.lrc_rules.specs.Boards.{loads_after, load_in};
 ghost use Rattle.lrc_board.specs.Views.{BoardView, homes_row, rows_of, online_of};
 ghost use Rattle.lrc_board.specs.Looks.{homes_in, level_on};
-ghost use Rattle.lrc_board.specs.Refreshed.{is_row_on, rows_refreshed, rows_anew_on, online_refreshed, put_flags, loads_refreshed, IsWhole, renewed};
+ghost use Rattle.lrc_board.specs.Refreshed.{both_changes, is_row_on, rows_refreshed, rows_anew, rows_anew_on, online_refreshed, online_anew, put_flags, loads_refreshed, IsWhole, renewed};
 
 use crate::changes::{ChangedNodes, ChangedStripes, Changes};
 use crate::line::LogPrefix;
@@ -112,24 +112,24 @@ impl Board {
         self.prefix.again()
     }
 
-    /// Updates the board from a book with `count` entries: what the last step and this one may have changed of the stripes, the
-    /// nodes and the loads.
+    /// Updates the board from a book with `count` entries: what the last batch and this one may have changed of the
+    /// stripes, the nodes and the loads.
     pub(crate) fn refresh(
         &mut self,
         book: &Book,
-        last: Changes,
-        now: Changes,
+        last: &Changes,
+        now: &Changes,
         count: u64,
         prefix: &LogPrefix,
     )
         requires log { prefix.now.book ≡ self.old.book }
         requires whole { IsWhole book.now.nodes self.old }
-        ensures { self.new ≡ renewed self.old book.now last now count prefix.now.log }
+        ensures { self.new ≡ renewed self.old book.now (both_changes last.now now.now) count prefix.now.log }
     {
-        refresh_rows(&mut self.rows, book, last.stripes);
-        refresh_rows(&mut self.rows, book, now.stripes);
-        refresh_online(&mut self.online, book, last.nodes);
-        refresh_online(&mut self.online, book, now.nodes);
+        refresh_rows(&mut self.rows, book, &last.stripes);
+        refresh_rows(&mut self.rows, book, &now.stripes);
+        refresh_online(&mut self.online, book, &last.nodes);
+        refresh_online(&mut self.online, book, &now.nodes);
         refresh_loads(&mut self.loads, book, last.loads || now.loads);
         self.count = count;
         self.prefix = prefix.again();
@@ -178,13 +178,23 @@ fn mark_all(online: &mut [bool], topology: &Topology)
 }
 
 /// Copies the rows that may have changed from a book.
-fn refresh_rows(rows: &mut [Option<StripeHomes>], book: &Book, changed: ChangedStripes)
+fn refresh_rows(rows: &mut [Option<StripeHomes>], book: &Book, changes: &[ChangedStripes])
     requires { length rows.old ≡ 4096 }
-    ensures value { rows.new ≡ rows_refreshed (state_of book.now) changed rows.old }
+    ensures value { rows.new ≡ rows_refreshed (state_of book.now) changes.now rows.old }
+    ensures whole { length rows.new ≡ 4096 }
+{
+    for changed in changes.iter() {
+        refresh_changed(rows, book, *changed);
+    }
+}
+
+/// Copies the rows that one change may have changed from a book.
+fn refresh_changed(rows: &mut [Option<StripeHomes>], book: &Book, changed: ChangedStripes)
+    requires { length rows.old ≡ 4096 }
+    ensures value { rows.new ≡ rows_anew (state_of book.now) changed rows.old }
     ensures whole { length rows.new ≡ 4096 }
 {
     match changed {
-        ChangedStripes::NoStripe => {}
         ChangedStripes::Stripe(stripe) => {
             rows[usize::from(stripe.get())] = StripeHomes::of(book, stripe)
         }
@@ -226,13 +236,23 @@ fn is_on(rows: &[Option<StripeHomes>], stripe: StripeNo, node: NodeNo) -> bool
 }
 
 /// Copies from a book which of the nodes are online that may have changed.
-fn refresh_online(online: &mut [bool], book: &Book, changed: ChangedNodes)
+fn refresh_online(online: &mut [bool], book: &Book, changes: &[ChangedNodes])
     requires { length online.old ≡ 65536 }
-    ensures value { online.new ≡ online_refreshed book.now.nodes (state_of book.now) changed online.old }
+    ensures value { online.new ≡ online_refreshed book.now.nodes (state_of book.now) changes.now online.old }
+    ensures whole { length online.new ≡ 65536 }
+{
+    for changed in changes.iter() {
+        refresh_nodes(online, book, *changed);
+    }
+}
+
+/// Copies from a book which of the nodes are online that one change may have changed.
+fn refresh_nodes(online: &mut [bool], book: &Book, changed: ChangedNodes)
+    requires { length online.old ≡ 65536 }
+    ensures value { online.new ≡ online_anew book.now.nodes (state_of book.now) changed online.old }
     ensures whole { length online.new ≡ 65536 }
 {
     match changed {
-        ChangedNodes::NoNode => {}
         ChangedNodes::Node(node) => refresh_node(online, book, node),
         ChangedNodes::AllIn(domain) => refresh_domain(online, book, domain),
     }

@@ -1,18 +1,16 @@
-ghost use Rattle.std.specs.Prelude.{◌≡◌, List};
-ghost use Rattle.lrc_code.specs.declared.numbers.SessionNo.{SessionNo};
-ghost use Rattle.lrc_topology.specs.declared.NodeInfo.{NodeInfo};
-ghost use Rattle.lrc_rules.specs.declared.entry.Entry.{Entry};
-ghost use Rattle.lrc_rules.specs.States.{State};
-ghost use Rattle.lrc_rules.specs.Steps.{step};
-ghost use Rattle.lrc_board.specs.Refreshed.{OthersStay, no_changes, stripes_changed_by, nodes_changed_by, are_loads_changed_by};
+ghost use Rattle.std.specs.Prelude.{◌≡◌, ◌<◌, ◌≤◌, ◌+◌, ◌++◌, length, vec_len, vec_capacity, IfOk};
+ghost use Rattle.lrc_answers.specs.Answers.{lent};
+ghost use Rattle.lrc_board.specs.Refreshed.{no_changes, both_changes, changes_by, stripes_changed_by, nodes_changed_by, are_loads_changed_by};
 
-use lrc_book::{Command, Reply};
+use crate::batch::BATCH_LIMIT;
+use lrc_book::{Command, Record, ReplyRef};
 use lrc_code::{NodeNo, StripeNo, UpgradeNo};
+use std::alloc::{AllocError, Global};
+use std::marker::Model;
 
 /// The stripes whose code or homes a step may have changed.
 #[derive(Clone, Copy)]
 pub(crate) enum ChangedStripes {
-    NoStripe,
     Stripe(StripeNo),
     /// Those that had a home on the node.
     AllOn(NodeNo),
@@ -21,86 +19,109 @@ pub(crate) enum ChangedStripes {
 /// The nodes that a step may have brought online or taken offline.
 #[derive(Clone, Copy)]
 pub(crate) enum ChangedNodes {
-    NoNode,
     Node(NodeNo),
     /// Those of the upgrade domain.
     AllIn(UpgradeNo),
 }
 
-/// What a step may have changed of what a board shows.
-#[derive(Clone, Copy)]
+/// What the steps of a batch may have changed of what a board shows, with room for those of the longest batch.
+#[derive(Drop)]
 pub(crate) struct Changes {
-    pub(crate) stripes: ChangedStripes,
-    pub(crate) nodes: ChangedNodes,
+    pub(crate) stripes: Vec<ChangedStripes>,
+    pub(crate) nodes: Vec<ChangedNodes>,
     /// Whether the load of any node may have changed.
     pub(crate) loads: bool,
 }
 
+impl Model for Changes {
+    ghost use Rattle.std.specs.Prelude.{◌≤◌, vec_capacity};
+    ghost use Rattle.lrc_board.specs.Refreshed.{ChangesView};
+
+    ghost Value = { ChangesView };
+
+    ghost view = { λ c. record { stripes = c.stripes.items; nodes = c.nodes.items; loads = c.loads } };
+
+    ghost invariant = { λ c. (256 ≤ vec_capacity c.stripes) × (256 ≤ vec_capacity c.nodes) };
+}
+
 impl Changes {
-    /// Returns no changes.
-    pub(crate) fn none() -> Changes
-        ensures { result ≡ no_changes }
+    /// Allocates a list without changes.
+    pub(crate) fn new(alloc: Global) -> Result<Changes, AllocError>
+        ensures { IfOk result (λ c. c ≡ no_changes) }
     {
-        Changes {
-            stripes: ChangedStripes::NoStripe,
-            nodes: ChangedNodes::NoNode,
+        Ok(Changes {
+            stripes: Vec::with_capacity(alloc, BATCH_LIMIT)?,
+            nodes: Vec::with_capacity(alloc, BATCH_LIMIT)?,
             loads: false,
-        }
+        })
     }
 
-    /// Returns what a command with this reply may have changed.
-    pub(crate) fn by(command: Command, reply: &Reply) -> Changes
-        ensures { (nodes : List NodeInfo) (past : List Entry) (st : State) (session : SessionNo)
-            → (step nodes past st session command).0 ≡ reply.now → OthersStay nodes result st (step nodes past st session command).1 }
+    /// Adds what a step may have changed.
+    pub(crate) fn add(&mut self, step: &Record)
+        requires stripes { length self.old.stripes < 256 }
+        requires nodes { length self.old.nodes < 256 }
+        ensures { self.new ≡ both_changes self.old (changes_by step.now.command step.now.reply) }
     {
-        match reply {
-            Reply::Refused(_) => Changes::none(),
-            _ => Changes {
-                stripes: stripes_changed_by(command),
-                nodes: nodes_changed_by(command),
-                loads: are_loads_changed_by(command, reply),
-            },
+        let (command, reply) = (step.command(), step.reply_ref());
+        if let ReplyRef::Refused(_) = reply {
+            return;
         }
+        add_stripes(&mut self.stripes, command);
+        add_nodes(&mut self.nodes, command);
+        self.loads = self.loads || are_loads_changed_by(command, &reply);
+    }
+
+    /// Removes all changes.
+    pub(crate) fn clear(&mut self)
+        ensures { self.new ≡ no_changes }
+    {
+        self.stripes.clear();
+        self.nodes.clear();
+        self.loads = false;
     }
 }
 
-/// Returns the stripes whose code or homes a command may change if it is not refused.
-fn stripes_changed_by(command: Command) -> ChangedStripes
-    ensures { result ≡ stripes_changed_by command }
+/// Adds the stripes whose code or homes a command may change if it is not refused.
+fn add_stripes(stripes: &mut Vec<ChangedStripes>, command: Command)
+    requires room { vec_len stripes.old < vec_capacity stripes.old }
+    ensures items { stripes.new.items ≡ stripes.old.items ++ stripes_changed_by command }
+    ensures room { vec_capacity stripes.new ≡ vec_capacity stripes.old }
 {
     match command {
-        Command::Place(stripe) => ChangedStripes::Stripe(stripe),
-        Command::Place6(stripe) => ChangedStripes::Stripe(stripe),
-        Command::Drop(stripe) => ChangedStripes::Stripe(stripe),
-        Command::Done(stripe, _, _) => ChangedStripes::Stripe(stripe),
-        Command::Fail(node) => ChangedStripes::AllOn(node),
-        _ => ChangedStripes::NoStripe,
+        Command::Place(stripe) => stripes.push_reserved(ChangedStripes::Stripe(stripe)),
+        Command::Place6(stripe) => stripes.push_reserved(ChangedStripes::Stripe(stripe)),
+        Command::Drop(stripe) => stripes.push_reserved(ChangedStripes::Stripe(stripe)),
+        Command::Done(stripe, _, _) => stripes.push_reserved(ChangedStripes::Stripe(stripe)),
+        Command::Fail(node) => stripes.push_reserved(ChangedStripes::AllOn(node)),
+        _ => (),
     }
 }
 
-/// Returns the nodes that a command may bring online or take offline if it is not refused.
-fn nodes_changed_by(command: Command) -> ChangedNodes
-    ensures { result ≡ nodes_changed_by command }
+/// Adds the nodes that a command may bring online or take offline if it is not refused.
+fn add_nodes(nodes: &mut Vec<ChangedNodes>, command: Command)
+    requires room { vec_len nodes.old < vec_capacity nodes.old }
+    ensures items { nodes.new.items ≡ nodes.old.items ++ nodes_changed_by command }
+    ensures room { vec_capacity nodes.new ≡ vec_capacity nodes.old }
 {
     match command {
-        Command::Fail(node) => ChangedNodes::Node(node),
-        Command::Down(node) => ChangedNodes::Node(node),
-        Command::Up(node) => ChangedNodes::Node(node),
-        Command::Retire(node) => ChangedNodes::Node(node),
-        Command::Join(node) => ChangedNodes::Node(node),
-        Command::Upgrade(domain) => ChangedNodes::AllIn(domain),
-        Command::Upgraded(domain) => ChangedNodes::AllIn(domain),
-        _ => ChangedNodes::NoNode,
+        Command::Fail(node) => nodes.push_reserved(ChangedNodes::Node(node)),
+        Command::Down(node) => nodes.push_reserved(ChangedNodes::Node(node)),
+        Command::Up(node) => nodes.push_reserved(ChangedNodes::Node(node)),
+        Command::Retire(node) => nodes.push_reserved(ChangedNodes::Node(node)),
+        Command::Join(node) => nodes.push_reserved(ChangedNodes::Node(node)),
+        Command::Upgrade(domain) => nodes.push_reserved(ChangedNodes::AllIn(domain)),
+        Command::Upgraded(domain) => nodes.push_reserved(ChangedNodes::AllIn(domain)),
+        _ => (),
     }
 }
 
 /// Reports whether a command with this reply may have changed the load of any node.
-fn are_loads_changed_by(command: Command, reply: &Reply) -> bool
-    ensures { result ≡ are_loads_changed_by command reply.now }
+fn are_loads_changed_by(command: Command, reply: &ReplyRef<'_>) -> bool
+    ensures { result ≡ are_loads_changed_by command (lent reply.now) }
 {
     match reply {
-        Reply::Refused(_) | Reply::Idle => false,
-        Reply::Changed => matches!(command, Command::Fail(_)),
+        ReplyRef::Refused(_) | ReplyRef::Idle => false,
+        ReplyRef::Changed => matches!(command, Command::Fail(_)),
         _ => true,
     }
 }

@@ -2,6 +2,7 @@
 //! levels and loads without a lock.
 #![tactic(auto)]
 
+mod batch;
 mod board;
 mod changes;
 mod error;
@@ -20,10 +21,11 @@ mod steps;
 mod stripe_homes;
 mod viewer;
 
+pub use batch::{BATCH_LIMIT, Batch};
 pub use board::{Board, NoOperation};
 pub use error::LookError;
 pub use keeper::Keeper;
-pub use line::{Line, LogPrefix, LogRule};
+pub use line::{Entries, Line, LogPrefix, LogRule};
 pub use log::{Log, NewLog, begins};
 pub use naming::ViewNaming;
 pub use open_error::OpenError;

@@ -1,10 +1,25 @@
 use logbook::{Rule, Seen};
 use lrc_book::Entry;
+use std::marker::Model;
 
-/// A line of a log: an entry, the number of the permit that wrote it, and that of the permit for the next line. It is ghost data:
-/// no value of it is made.
+/// The entries of a line. They are ghost data, as the line is.
+pub struct Entries {
+    entries: Vec<Entry>,
+}
+
+impl Model for Entries {
+    ghost use Rattle.std.specs.Prelude.{List};
+    ghost use Rattle.lrc_rules.specs.declared.entry.Entry.{Entry};
+
+    ghost Value = { List Entry };
+
+    ghost view = { λ e. e.entries.items };
+}
+
+/// A line of a log: the entries of a batch, the number of the permit that wrote it, and that of the permit for the next
+/// line. It is ghost data: no value of it is made.
 pub struct Line {
-    pub entry: Entry,
+    pub entries: Entries,
     pub by: u64,
     pub next: u64,
 }

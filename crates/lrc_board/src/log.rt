@@ -1,4 +1,4 @@
-ghost use Rattle.std.specs.Prelude.{◌≡◌, ℕ, ◌≤◌, [], ◌∷◌, ◌++◌, length};
+ghost use Rattle.std.specs.Prelude.{◌≡◌, ℕ, ◌≤◌, [], ◌++◌, length};
 ghost use mathlib.Core.List.{IsPrefix};
 ghost use Rattle.logbook.specs.Pages.{may_write};
 ghost use Rattle.lrc_board.specs.Lines.{word_of, written};
@@ -7,7 +7,7 @@ use crate::line::{Line, LogPrefix, LogRule};
 use crate::naming::ViewNaming;
 use crate::steps::{AppendLine, CheckUnused, MakePermit, NextLine, NoGain};
 use logbook::{Offer, Pen as Permit, Start, Word};
-use lrc_book::Entry;
+use lrc_book::Record;
 use std::marker::{Model, PhantomData};
 
 /// A log without lines, before it has a naming.
@@ -122,17 +122,18 @@ impl<N: ViewNaming> Log<N> {
             .compare_exchange::<CheckUnused, NoGain>(0, 0, &mut both, &mut offer, &mut self.permit);
     }
 
-    /// Appends an entry. The log has only one permit at a time, so no other writer can have appended, and it cannot fail.
-    pub fn add(&mut self, entry: Entry)
-        ensures { self.new ≡ self.old ++ entry ∷ [] }
+    /// Appends a line with these entries. The log has only one permit at a time, so no other writer can have appended, and it
+    /// cannot fail.
+    pub fn add(&mut self, entries: &[Record])
+        ensures { self.new ≡ self.old ++ entries.now }
     {
         let next_line = NextLine {
-            entry,
+            entries,
             next: new_permit(&self.word, &self.prefix),
         };
         let mut offer: Offer<Line, u64, LogRule, NoGain> = self
             .prefix
-            .plain::<NoGain, NextLine, AppendLine>(&next_line);
+            .plain::<NoGain, NextLine<'_>, AppendLine>(&next_line);
         self.word
             .compare_exchange::<AppendLine, NoGain>(
                 0,

@@ -3,8 +3,10 @@ ghost use Rattle.lrc_topology.specs.Nodes.{AreNodes};
 ghost use Rattle.lrc_rules.specs.Histories.{first_world};
 ghost use Rattle.lrc_board.specs.declared.open_error.OpenError.TheVariants as error;
 ghost use Rattle.lrc_board.specs.Views.{empty_board};
+ghost use Rattle.lrc_board.specs.Refreshed.{no_changes};
 
 use crate::board::Board;
+use crate::changes::Changes;
 use crate::keeper::Keeper;
 use crate::line::LogPrefix;
 use crate::log::NewLog;
@@ -77,14 +79,21 @@ fn writer_of<N: ViewNaming, R: Wait>(
 }
 
 /// Makes the keeper of a book that began empty, with no entry before it, and has no entry.
-fn keeper_of<N: ViewNaming>(book: Book, log: NewLog, writer: BoardWriter<N>) -> Keeper<N>
+fn keeper_of<N: ViewNaming>(
+    book: Book,
+    log: NewLog,
+    writer: BoardWriter<N>,
+    last: Changes,
+    now: Changes,
+) -> Keeper<N>
     requires book { (book.history ≡ []) × (book.nodes ≡ N.topology) × (book.limit ≡ N.limit) × (book.base ≡ first_world) × (book.before ≡ 0) }
     requires log { (log.prefix.book ≡ N.log) × (log.permit.nib.key ≡ N.start) }
     requires shown { writer.desk.shown.value ≡ empty_board N.topology N.log }
     requires spare { writer.desk.spare.value ≡ empty_board N.topology N.log }
+    requires lists { (last ≡ no_changes) × (now ≡ no_changes) }
     ensures { result ≡ book }
 {
-    Keeper::new(book, log.named(), Publisher::new(writer))
+    Keeper::new(book, log.named(), Publisher::new(writer, last), now)
 }
 
 impl<N: ViewNaming> Keeper<N> {
@@ -110,9 +119,10 @@ impl<N: ViewNaming> Keeper<N> {
         ensures err { IfErr result (λ e. e ≢ error.BadCount) }
     {
         book.history();
+        let (last, now) = (Changes::new(alloc)?, Changes::new(alloc)?);
         let writer = writer_of::<N, R>(alloc, rt, book.topology(), &log.prefix, readers)?;
         match viewers(alloc, writer.factory(), &log.prefix, readers) {
-            Ok(viewers) => Ok((keeper_of(book, log, writer), viewers)),
+            Ok(viewers) => Ok((keeper_of(book, log, writer, last, now), viewers)),
             Err(error) => {
                 writer.take(rt);
                 Err(error)

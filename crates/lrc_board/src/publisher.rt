@@ -2,7 +2,7 @@ ghost use Rattle.std.specs.Prelude.{◌≡◌, [], length, None, Some};
 ghost use Rattle.lrc_rules.specs.Histories.{IsLegal, first_world, state_after};
 ghost use Rattle.lrc_board.specs.Lines.{written};
 ghost use Rattle.lrc_board.specs.Views.{IsBoard, empty_board};
-ghost use Rattle.lrc_board.specs.Refreshed.{OthersStay, IsWhole, renewed};
+ghost use Rattle.lrc_board.specs.Refreshed.{OthersStay, IsWhole, no_changes, both_changes, renewed};
 
 use crate::changes::Changes;
 use crate::line::LogPrefix;
@@ -10,10 +10,11 @@ use crate::naming::ViewNaming;
 use crate::rule::{BoardWriter, Sees};
 use lrc_book::Book;
 use std::marker::Model;
+use std::mem;
 use std::sync::Wait;
 
-/// The writer's half of the published view, and what its spare board still lacks. Its model is the published entries. It is not
-/// `Drop`; `end` ends it.
+/// The writer's half of the published view, and what its spare board still lacks: the last batch. Its model is the published
+/// entries. It is not `Drop`; `end` ends it.
 pub(crate) struct Publisher<N: ViewNaming> {
     last: Changes,
     /// `None` only within a call.
@@ -51,14 +52,14 @@ fn show<N: ViewNaming, R: Wait>(
     rt: &R,
     writer: BoardWriter<N>,
     book: &Book,
-    last: Changes,
-    now: Changes,
+    last: &Changes,
+    now: &Changes,
     count: u64,
     prefix: &LogPrefix,
 ) -> BoardWriter<N>
     requires log { prefix.now.book ≡ writer.desk.spare.value.book }
     requires whole { IsWhole book.now.nodes writer.desk.spare.value }
-    requires next { IsBoard N.log N.start N.topology (renewed writer.desk.spare.value book.now last now count prefix.now.log) }
+    requires next { IsBoard N.log N.start N.topology (renewed writer.desk.spare.value book.now (both_changes last.now now.now) count prefix.now.log) }
     ensures board { IsBoard N.log N.start N.topology result.desk.shown.value }
     ensures shown { result.desk.shown.value.lines ≡ prefix.now.log }
     ensures spare { result.desk.spare.value ≡ writer.desk.shown.value }
@@ -71,24 +72,26 @@ fn show<N: ViewNaming, R: Wait>(
 }
 
 impl<N: ViewNaming> Publisher<N> {
-    /// Makes a publisher whose two boards have no entries.
-    pub(crate) fn new(writer: BoardWriter<N>) -> Publisher<N>
+    /// Makes a publisher whose two boards have no entries, with a list for what the spare one lacks.
+    pub(crate) fn new(writer: BoardWriter<N>, last: Changes) -> Publisher<N>
+        requires last { last ≡ no_changes }
         requires shown { writer.desk.shown.value ≡ empty_board N.topology N.log }
         requires spare { writer.desk.spare.value ≡ empty_board N.topology N.log }
         ensures { result ≡ [] }
     {
         Publisher {
-            last: Changes::none(),
+            last,
             writer: Some(writer),
         }
     }
 
-    /// Publishes the board of a book after one more step. It waits until the spare board has no reader.
+    /// Publishes the board of a book after one more batch, whose changes it takes. It waits until the spare board has no
+    /// reader.
     pub(crate) fn publish<R: Wait>(
         &mut self,
         rt: &R,
         book: &Book,
-        changed: Changes,
+        changes: &mut Changes,
         count: u64,
         prefix: &LogPrefix,
     )
@@ -96,13 +99,15 @@ impl<N: ViewNaming> Publisher<N> {
         requires book { (book.now.nodes ≡ N.topology) × (book.now.history ≡ written N.start prefix.now.log) × (book.now.base ≡ first_world) }
         requires count { count ≡ length (written N.start prefix.now.log) }
         requires legal { IsLegal N.topology (written N.start prefix.now.log) }
-        requires changed { OthersStay N.topology changed (state_after N.topology self.old) (state_after N.topology (written N.start prefix.now.log)) }
-        ensures { self.new ≡ written N.start prefix.now.log }
+        requires changes { OthersStay N.topology changes.old (state_after N.topology self.old) (state_after N.topology (written N.start prefix.now.log)) }
+        ensures all { self.new ≡ written N.start prefix.now.log }
+        ensures none { changes.new ≡ no_changes }
     {
         let writer = self.writer.take().unwrap();
-        let writer = show(rt, writer, book, self.last, changed, count, prefix);
+        let writer = show(rt, writer, book, &self.last, changes, count, prefix);
         put_back(&mut self.writer, writer);
-        self.last = changed;
+        mem::swap(&mut self.last, changes);
+        changes.clear();
     }
 
     /// Ends the published view.

@@ -1,6 +1,6 @@
 use crate::line::Line;
 use logbook::{Gain, Pen as Permit, Plain, Play};
-use lrc_book::Entry;
+use lrc_book::Record;
 
 /// The gain of a step whose caller trades nothing.
 pub(crate) struct NoGain;
@@ -47,17 +47,17 @@ impl Play<Line, u64> for AppendLine {
     ghost then = { AppendsLine };
 }
 
-/// The line to append: its entry, and the permit for the line after it.
+/// The line to append: its entries, and the permit for the line after it.
 #[derive(Drop)]
-pub(crate) struct NextLine {
-    pub(crate) entry: Entry,
+pub(crate) struct NextLine<'a> {
+    pub(crate) entries: &'a [Record],
     pub(crate) next: Permit,
 }
 
-impl Plain<NextLine, Line, u64> for AppendLine {
+impl<'a> Plain<NextLine<'a>, Line, u64> for AppendLine {
     ghost use Rattle.std.specs.Prelude.{None};
 
-    ghost ask = { λ c. record { entry = c.entry; by = 0; next = c.next.nib.key } };
+    ghost ask = { λ c. record { entries = c.entries.now; by = 0; next = c.next.nib.key } };
 
     ghost state = { λ c. None };
 }

@@ -1,34 +1,16 @@
 -- Calls of the only script, and what is printed of them.
-use Rattle.std.proofs.Common.{◌≡◌, ℕ, zero, suc, ◌+◌, ◌-◌, ◌≤◌, ◌<◌, All, List, [], ◌∷◌, ◌++◌, length, get_or, take, drop, map, refl, sym, ap, ◌∙◌, arith, append_assoc, append-nil, length-take, subst}
-use Rattle.std.proofs.lemmas.List.{map-append, length-append, length-map, length-drop, take_at, take_all, take_more}
-use Rattle.std.proofs.lemmas.List.Elements.{All-append, All-push}
+use Rattle.std.proofs.Common.{◌≡◌, ℕ, zero, suc, ◌+◌, ◌-◌, ◌≤◌, ◌<◌, All, List, [], ◌∷◌, ◌++◌, length, get_or, take, drop, map, refl, sym, ap, ◌∙◌, arith, length-take, subst}
+use Rattle.std.proofs.lemmas.List.{map-append, length-append, length-map, length-drop, take_at, take_all}
+use Rattle.std.proofs.lemmas.List.Elements.{All-append}
 use Rattle.lrc_code.specs.declared.numbers.SessionNo.{SessionNo}
 use Rattle.lrc_rules.specs.declared.command.Command.{Command}
 use Rattle.lrc_rules.specs.declared.entry.Entry.{Entry}
 use Rattle.lrc_rules.specs.Sessions.{commands_of_each}
 use Rattle.lrc_text.specs.Texts.{lines_from}
-use Rattle.lrc_outputs.specs.Plays.{AreMadeBehind}
+use Rattle.lrc_board.specs.Batches.{AreMadeBehind}
 use Rattle.lrc_outputs.proofs.SessionLemmas.{IsFirst, commands_alone}
 
 -- ---- commands after a history
-
-pub none_made : (before : List Entry) (session : SessionNo) → AreMadeBehind before session [] before
-none_made before session = record {
-  added = [];
-  behind = sym (append-nil before);
-  made = refl;
-  alone = λ k d within. absurd (omega (arith, within));
-}
-
-pub one_more_made :
-    (before after : List Entry) (session : SessionNo) (commands : List Command) (i : ℕ) (e : Entry) → AreMadeBehind before session (take i commands) after
-    → i < length commands → e.command ≡ get_or commands i e.command → e.session ≡ session → AreMadeBehind before session (take (i + 1) commands) (after ++ e ∷ [])
-one_more_made before after session commands i e so_far within here same = record {
-  added = so_far.added ++ e ∷ [];
-  behind = ap (λ es. es ++ e ∷ []) so_far.behind ∙ append_assoc before so_far.added (e ∷ []);
-  made = rw (map-append, so_far.made, take_more commands i e.command within, ← here) refl;
-  alone = All-push (λ x. x.session ≡ session) so_far.added e so_far.alone same;
-}
 
 pub all_made : (before after : List Entry) (session : SessionNo) (commands : List Command) (i : ℕ) → AreMadeBehind before session (take i commands) after
     → length commands ≤ i → AreMadeBehind before session commands after

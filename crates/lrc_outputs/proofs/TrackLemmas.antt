@@ -5,6 +5,7 @@ use Rattle.std.proofs.lemmas.Bool.{cases_Bool, leb-true}
 use Rattle.std.proofs.lemmas.Bool.Decides.{nat_tests}
 use Rattle.std.proofs.lemmas.List.{length-map, get_or-map}
 use Rattle.std.proofs.lemmas.List.Elements.{All-nil, All-cons, All-weaker}
+use Rattle.std.proofs.lemmas.List.Concat.{flat_map-append}
 use Rattle.std.proofs.lemmas.List.FromFn.{get_or-map-range_with_len, map-range_with_len_more}
 use Rattle.std.proofs.lemmas.List.Sums.{sum_by-cons, count_by-le-length, length-filter}
 use Rattle.std.specs.List.{range_with_len}
@@ -17,6 +18,7 @@ use Rattle.lrc_rules.specs.declared.entry.Entry.{Entry}
 use Rattle.lrc_rules.specs.Sessions.{NumberedEntry, numbered_from, is_of, entries_of, commands_of, AreRising}
 use Rattle.lrc_topology.specs.declared.NodeInfo.{NodeInfo}
 use Rattle.lrc_rules.proofs.NumberedLemmas.{all_made}
+use Rattle.lrc_board.specs.declared.batch.Batch.{Batch}
 use Rattle.lrc_board.specs.declared.receipt.Receipt.{Receipt}
 use Rattle.lrc_sessions.specs.declared.closing.Closing.{Closing}
 use Rattle.lrc_sessions.specs.declared.track.Stop.{Stop}
@@ -25,15 +27,35 @@ use Rattle.lrc_sessions.specs.declared.track.Track.{Track}
 use Rattle.lrc_sessions.specs.Views.{SessionView, fresh}
 use Rattle.lrc_sessions.specs.Counts.{made_of, made_in, counts_of, counts_in, total_made}
 use Rattle.lrc_sessions.specs.Closing.{Closes}
-use Rattle.lrc_sessions.specs.Runs.{StopFits, StopIsSeen, AreStanding, IsRun, AreRun}
+use Rattle.lrc_sessions.specs.Receipts.{entries_at, receipts_from, receipts_in, IsBatchIn}
+use Rattle.lrc_sessions.specs.Runs.{StopFits, StopIsSeen, AreStanding, IsRun, IsRunInBatches, AreRun}
 use Rattle.lrc_sessions.proofs.Counting.{only, total_push}
+use Rattle.lrc_sessions.proofs.ReceiptLemmas.{receipts_in-later, all_seen_later}
 use Rattle.lrc_sessions.proofs.RunLemmas.{some_of}
 use Rattle.lrc_sessions.proofs.StandingLemmas.{prefix_long, standing_on}
 use Rattle.lrc_outputs.specs.Judged.{lists_of}
 use Rattle.lrc_outputs.specs.Faults.{stop_fault, first_fault}
-use Rattle.lrc_text.specs.Texts.{reply_line, script_line}
+use Rattle.lrc_text.specs.Texts.{reply_line, lines_from, script_line}
 use Rattle.lrc_text.proofs.WholeTexts.{script_text, replies_text}
-use Rattle.lrc_outputs.specs.Plays.{AreMade, receipts_text, track_text, tracks_text}
+use Rattle.lrc_outputs.specs.Plays.{AreMade, batches_text, track_text, tracks_text}
+
+-- ---- what is printed of batches
+
+-- what is printed of receipts
+abbrev receipts_text : List Receipt → List ℕ
+receipts_text receipts = flat_map (λ r. reply_line r.place r.reply) receipts
+
+entries_told : (place : ℕ) (es : List Entry) → lines_from place es ≡ receipts_text (receipts_from place es)
+entries_told place [] = refl
+entries_told place (e ∷ es) = ap (λ t. reply_line place e.reply ++ t) (entries_told (place + 1) es)
+
+-- what is printed of batches is printed of their receipts
+batches_told : (history : List Entry) (bs : List Batch) → batches_text history bs ≡ receipts_text (receipts_in history bs)
+batches_told history [] = refl
+batches_told history (b ∷ bs) =
+    let here = entries_told b.first (entries_at history b) in
+    let more = batches_told history bs in
+    (λ i. here i ++ more i) ∙ sym (flat_map-append (λ (r : Receipt). reply_line r.place r.reply) (receipts_from b.first (entries_at history b)) (receipts_in history bs))
 
 -- ---- the entries of one script
 
@@ -270,45 +292,62 @@ stopped_by (Some (stop.Fault g)) f is = ap (λ (p : Option Fault). Some (stop.Fa
 stopped_by (Some stop.Gate) f is = absurd (cc)
 stopped_by None f is = absurd (cc)
 
-module _ {Z : Type 0} (limit : ℕ) (scripts : List (Vec Command Z)) (after : List SessionView) (tracks : List Track) (ran : AreRun limit ⊥ open_passes scripts (fresh (length scripts)) after tracks) where
+module _ {Z : Type 0} (limit most : ℕ) (scripts : List (Vec Command Z)) (after : List SessionView) (tracks : List Track)
+    (ran : AreRun limit most ⊥ open_passes scripts (fresh (length scripts)) after tracks) where
   abbrev first_view : ℕ → SessionView
   first_view k = record { number = k; made = 0; seen = [] }
 
+  -- the receipts of script i, over what its session has seen
+  abbrev receipts_at : ℕ → SessionView → Track → List Receipt
+  receipts_at i a t = receipts_in (get_or after i a).seen (get_or tracks i t).batches
+
   run_at : (i : ℕ) (s : Vec Command Z) (a : SessionView) (t : Track) → i < length scripts
-      → IsRun limit ⊥ open_passes (get_or scripts i s).items (first_view (1 + i)) (get_or after i a) (get_or tracks i t).receipts (get_or tracks i t).stopped
+      → IsRunInBatches limit most ⊥ open_passes (get_or scripts i s).items (first_view (1 + i)) (get_or after i a) (get_or tracks i t).batches (get_or tracks i t).stopped
   run_at i s a t low =
       let before = get_or-map-range_with_len first_view 1 (length scripts) i (1 + i) a low refl in
-      subst (λ (b : SessionView). IsRun limit ⊥ open_passes (get_or scripts i s).items b (get_or after i a) (get_or tracks i t).receipts (get_or tracks i t).stopped) before (ran.2 i s a a t low)
+      subst (λ (b : SessionView). IsRunInBatches limit most ⊥ open_passes (get_or scripts i s).items b (get_or after i a) (get_or tracks i t).batches (get_or tracks i t).stopped) before (ran.2 i s a a t low)
 
   are_from : AreFrom 1 after
   are_from i a low =
       let within : i < length scripts = omega (arith, low, ran.0) in
-      (run_at i (some_of scripts i within) a (some_of tracks i (omega (arith, within, ran.1))) within).0
+      (run_at i (some_of scripts i within) a (some_of tracks i (omega (arith, within, ran.1))) within).0.0
 
-  made_for : (i : ℕ) (s : Vec Command Z) (t : Track) → i < length scripts → made_of (1 + i) after ≡ length (get_or tracks i t).receipts
-  made_for i s t low =
-      let a = first_view 1 in
+  made_for : (i : ℕ) (s : Vec Command Z) (a : SessionView) (t : Track) → i < length scripts → made_of (1 + i) after ≡ length (receipts_at i a t)
+  made_for i s a t low =
       let there : i < length after = omega (arith, low, ran.0) in
       let count = made_at 1 i (1 + i) after a are_from there refl in
-      let made = (run_at i s a t low).1 in
+      let made = (run_at i s a t low).0.1 in
       omega (arith, count, made)
 
   no_more : NoMore (λ k. made_of k after) 1 scripts
   no_more i v low =
       let t = some_of tracks i (omega (arith, low, ran.1)) in
-      let most = (run_at i v (first_view 1) t low).2 in
-      omega (arith, made_for i v t low, most)
+      let a = first_view 1 in
+      let few = (run_at i v a t low).0.2 in
+      omega (arith, made_for i v a t low, few)
 
   module _ (history : List Entry) (seen : All (λ s. IsPrefix s.seen history) after) where
+    -- the history has the calls of all batches
+    within_at : All (λ t. All (IsBatchIn most history) t.batches) tracks
+    within_at i t low =
+        let within : i < length scripts = omega (arith, low, ran.1) in
+        let a = first_view 1 in
+        all_seen_later most (get_or after i a).seen history (get_or tracks i t).batches (seen i a (omega (arith, within, ran.0))) (run_at i (some_of scripts i within) a t within).1
+
     told_at : first_fault tracks ≡ None → counts_of (length scripts) after ≡ counts_in (length scripts) history → (i : ℕ) (s : Vec Command Z) (t : Track) → i < length scripts
-        → IsTold (1 + i) history (get_or scripts i s).items (get_or tracks i t).receipts
+        → IsTold (1 + i) history (get_or scripts i s).items (receipts_in history (get_or tracks i t).batches)
     told_at unstopped counts i s t low =
         let a = first_view 1 in
+        let commands = (get_or scripts i s).items in
+        let batches = (get_or tracks i t).batches in
+        let known = (get_or after i a).seen in
+        let receipts = receipts_at i a t in
         let run = run_at i s a t low in
         let there : i < length after = omega (arith, low, ran.0) in
-        let long = whole (get_or scripts i s).items (length (get_or tracks i t).receipts) (get_or tracks i t).stopped (none_at tracks i t unstopped (omega (arith, low, ran.1))) run.3 in
-        let standing = standing_on (1 + i) 0 (get_or scripts i s).items (get_or tracks i t).receipts (get_or after i a).seen history (seen i a there) run.5 in
-        told (1 + i) history (get_or scripts i s).items (get_or tracks i t).receipts long standing (sym (made_for i s t low) ∙ same_count (length scripts) i after history counts low)
+        let long = whole commands (length receipts) (get_or tracks i t).stopped (none_at tracks i t unstopped (omega (arith, low, ran.1))) run.0.3 in
+        let standing = standing_on (1 + i) 0 commands receipts known history (seen i a there) run.0.5 in
+        let is_told = told (1 + i) history commands receipts long standing (sym (made_for i s a t low) ∙ same_count (length scripts) i after history counts low) in
+        subst (IsTold (1 + i) history commands) (sym (receipts_in-later most known history batches (seen i a there) run.1)) is_told
 
     -- a script that a full history stopped has a command left, so all of them have more than the history has entries
     full_never : length history ≡ total_made (counts_of (length scripts) after) → commands_in scripts ≤ limit → All (λ t. stop_fault t.stopped ≢ Some book.HistoryFull) tracks
@@ -316,18 +355,18 @@ module _ {Z : Type 0} (limit : ℕ) (scripts : List (Vec Command Z)) (after : Li
         let within : i < length scripts = omega (arith, low, ran.1) in
         let a = first_view 1 in
         let at = stopped_by (get_or tracks i t).stopped book.HistoryFull full in
-        let seen_whole : length (get_or after i a).seen ≡ limit = subst (StopIsSeen limit (get_or after i a).seen) at (run_at i (some_of scripts i within) a t within).6 in
+        let seen_whole : length (get_or after i a).seen ≡ limit = subst (StopIsSeen limit (get_or after i a).seen) at (run_at i (some_of scripts i within) a t within).0.6 in
         let long = prefix_long (get_or after i a).seen history (seen i a (omega (arith, within, ran.0))) in
         let left : (v : Vec Command Z) → made_of (1 + i) after < length (get_or scripts i v).items =
-        λ v. let less = subst (StopFits ⊥ (get_or scripts i v).items (length (get_or tracks i t).receipts)) at (run_at i v a t within).3 in omega (arith, made_for i v t within, less) in
+        λ v. let less = subst (StopFits ⊥ (get_or scripts i v).items (length (receipts_at i a t))) at (run_at i v a t within).0.3 in omega (arith, made_for i v a t within, less) in
         let less = counted_less (λ k. made_of k after) 1 i scripts no_more within left in
         omega (arith, total, few, seen_whole, long, less)
 
 -- where all commands of the scripts have room in the history, a full one stopped none of them
-pub never_full : {Z : Type 0} (nodes : List NodeInfo) (limit : ℕ) (scripts : List (Vec Command Z)) (after : List SessionView) (tracks : List Track) (c : Closing)
-    → AreRun limit ⊥ open_passes scripts (fresh (length scripts)) after tracks → Closes nodes limit (length scripts) after c → sum_by (λ v. length v.items) scripts ≤ limit
+pub never_full : {Z : Type 0} (nodes : List NodeInfo) (limit most : ℕ) (scripts : List (Vec Command Z)) (after : List SessionView) (tracks : List Track) (c : Closing)
+    → AreRun limit most ⊥ open_passes scripts (fresh (length scripts)) after tracks → Closes nodes limit (length scripts) after c → sum_by (λ v. length v.items) scripts ≤ limit
     → All (λ t. stop_fault t.stopped ≢ Some book.HistoryFull) tracks
-never_full nodes limit scripts after tracks c ran closes few = full_never limit scripts after tracks ran c.book.history closes.7 (closes.5 ∙ ap total_made closes.4) few
+never_full nodes limit most scripts after tracks c ran closes few = full_never limit most scripts after tracks ran c.book.history closes.7 (closes.5 ∙ ap total_made closes.4) few
 
 commands_all : (h : List Entry) (first : ℕ) (ls : List (List Command)) → ((i : ℕ) → i < length ls → commands_of (first + i) h ≡ get_or ls i [])
     → map (λ s. commands_of s h) (range_with_len first (length ls)) ≡ ls
@@ -337,31 +376,39 @@ commands_all h first (l ∷ ls) each =
     let more = commands_all h (first + 1) ls (λ i low. ap (λ k. commands_of k h) (let z : first + 1 + i ≡ first + suc i = omega arith in z) ∙ each (suc i) (omega arith)) in
     λ i. here i ∷ more i
 
-texts_all : (h : List Entry) (first : ℕ) (ts : List Track) → ((i : ℕ) (t : Track) → i < length ts → track_text (first + i) (get_or ts i t) ≡ script_text h (first + i))
-    → tracks_text first ts ≡ flat_map (script_text h) (range_with_len first (length ts))
+-- the history has the calls of all batches
+pub tracks_within : {Z : Type 0} (nodes : List NodeInfo) (limit most : ℕ) (scripts : List (Vec Command Z)) (after : List SessionView) (tracks : List Track) (c : Closing)
+    → AreRun limit most ⊥ open_passes scripts (fresh (length scripts)) after tracks → Closes nodes limit (length scripts) after c
+    → All (λ t. All (IsBatchIn most c.book.history) t.batches) tracks
+tracks_within nodes limit most scripts after tracks c ran closes = within_at limit most scripts after tracks ran c.book.history closes.7
+
+texts_all : (h : List Entry) (first : ℕ) (ts : List Track) → ((i : ℕ) (t : Track) → i < length ts → track_text h (first + i) (get_or ts i t) ≡ script_text h (first + i))
+    → tracks_text h first ts ≡ flat_map (script_text h) (range_with_len first (length ts))
 texts_all h first [] each = refl
 texts_all h first (t ∷ ts) each =
-    let here : track_text first t ≡ script_text h first = subst (λ k. track_text k t ≡ script_text h k) (let z : first + 0 ≡ first = omega arith in z) (each 0 t (omega arith)) in
-    let next : (i : ℕ) (d : Track) → i < length ts → track_text (first + 1 + i) (get_or ts i d) ≡ script_text h (first + 1 + i) =
-    λ i d low. subst (λ k. track_text k (get_or ts i d) ≡ script_text h k) (let z : first + suc i ≡ first + 1 + i = omega arith in z) (each (suc i) d (omega arith)) in
+    let here : track_text h first t ≡ script_text h first = subst (λ k. track_text h k t ≡ script_text h k) (let z : first + 0 ≡ first = omega arith in z) (each 0 t (omega arith)) in
+    let next : (i : ℕ) (d : Track) → i < length ts → track_text h (first + 1 + i) (get_or ts i d) ≡ script_text h (first + 1 + i) =
+    λ i d low. subst (λ k. track_text h k (get_or ts i d) ≡ script_text h k) (let z : first + suc i ≡ first + 1 + i = omega arith in z) (each (suc i) d (omega arith)) in
     let more = texts_all h (first + 1) ts next in
     λ i. here i ++ more i
 
 -- the sessions of scripts that were not stopped made all their commands, and what is printed of the tracks is printed of the history
-pub tracks_made : {Z : Type 0} (nodes : List NodeInfo) (limit : ℕ) (scripts : List (Vec Command Z)) (after : List SessionView) (tracks : List Track) (c : Closing)
-    → AreRun limit ⊥ open_passes scripts (fresh (length scripts)) after tracks → first_fault tracks ≡ None → Closes nodes limit (length scripts) after c
-    → AreMade nodes (lists_of scripts) c.book.history (tracks_text 1 tracks)
-tracks_made {Z} nodes limit scripts after tracks c ran unstopped closes =
+pub tracks_made : {Z : Type 0} (nodes : List NodeInfo) (limit most : ℕ) (scripts : List (Vec Command Z)) (after : List SessionView) (tracks : List Track) (c : Closing)
+    → AreRun limit most ⊥ open_passes scripts (fresh (length scripts)) after tracks → first_fault tracks ≡ None → Closes nodes limit (length scripts) after c
+    → AreMade nodes (lists_of scripts) c.book.history (tracks_text c.book.history 1 tracks)
+tracks_made {Z} nodes limit most scripts after tracks c ran unstopped closes =
     let h = c.book.history in
     let n = length scripts in
     let long : length (lists_of scripts) ≡ n = length-map scripts (λ (v : Vec Command Z). v.items) in
-    let at = told_at limit scripts after tracks ran h closes.7 unstopped (sym closes.4 ∙ closes.6) in
+    let at = told_at limit most scripts after tracks ran h closes.7 unstopped (sym closes.4 ∙ closes.6) in
     let made = commands_all h 1 (lists_of scripts) (λ i low.
     let within : i < n = omega (arith, low, long) in
     let s = some_of scripts i within in
     let t = some_of tracks i (omega (arith, within, ran.1)) in
     (at i s t within).made ∙ sym (get_or-map (λ (v : Vec Command Z). v.items) scripts i s [] within)) in
-    let printed = texts_all h 1 tracks (λ i t low. let within : i < n = omega (arith, low, ran.1) in (at i (some_of scripts i within) t within).printed) in
+    let printed = texts_all h 1 tracks (λ i t low.
+    let within : i < n = omega (arith, low, ran.1) in
+    ap (λ (text : List ℕ). script_line (1 + i) ++ text) (batches_told h (get_or tracks i t).batches) ∙ (at i (some_of scripts i within) t within).printed) in
     record {
       legal = closes.3;
       made = made;

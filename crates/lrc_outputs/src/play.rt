@@ -3,7 +3,8 @@ ghost use Rattle.lrc_rules.specs.Histories.{IsLegalFrom};
 ghost use Rattle.lrc_rules.specs.Sessions.{commands_of_each};
 ghost use Rattle.lrc_images.specs.Causes.{most_entries};
 ghost use Rattle.lrc_outputs.specs.Judged.{lists_of, AreFew};
-ghost use Rattle.lrc_outputs.specs.Plays.{AreMadeFrom, AreMadeBehind};
+ghost use Rattle.lrc_board.specs.Batches.{AreMadeBehind};
+ghost use Rattle.lrc_outputs.specs.Plays.{AreMadeFrom};
 ghost use Rattle.lrc_outputs.specs.Outputs.{IsPlayed, IsPlayedFrom};
 ghost use Rattle.lrc_streams.specs.declared.streams.RunFault.TheVariants as fault;
 

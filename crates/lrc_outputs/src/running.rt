@@ -19,7 +19,7 @@ use std::alloc::Global;
 use std::sync::Wait;
 use std::thread::Threads;
 
-/// Runs the scripts of a bundle, and returns the output. The output of one script reuses the bundle's memory.
+/// Runs the scripts of a bundle, and returns the output. The output reuses the bundle's memory.
 ///
 /// # Errors
 ///
@@ -84,7 +84,7 @@ fn play_all<T: Threads + Wait + Sync>(
     ensures err { IfErr result (λ e. (e ≡ fault.OutOfMemory) ⊎ ((e ≡ fault.NoReader) × (1 < length scripts.now))) }
 {
     if scripts.len() > 1 {
-        return play_together(rt, alloc, topology, scripts);
+        return play_together(rt, alloc, topology, scripts, room);
     }
     play(alloc, topology, scripts, room)
 }

@@ -1,28 +1,32 @@
 //! Running several scripts at once, each by its own session.
 
-ghost use Rattle.std.specs.Prelude.{◌≡◌, ◌≢◌, ◌<◌, ◌≤◌, ◌⊎◌, ◌++◌, length, sum_by, All};
+ghost use Rattle.std.specs.Prelude.{◌≡◌, ◌≢◌, ◌<◌, ◌≤◌, ◌⊎◌, [], ◌++◌, length, sum_by, All};
 ghost use Rattle.std.specs.Prelude.{Some, None, option_map, IfOk, OnOk, IfErr};
 ghost use Rattle.lrc_code.specs.declared.fault.Fault.TheVariants as book;
 ghost use Rattle.lrc_rules.specs.Histories.{first_world};
+ghost use Rattle.lrc_sessions.specs.Receipts.{IsBatchIn};
 ghost use Rattle.lrc_streams.specs.Faults.{run_fault};
 ghost use Rattle.lrc_outputs.specs.Faults.{stop_fault, first_fault};
 ghost use Rattle.lrc_outputs.specs.Judged.{lists_of, AreFew};
-ghost use Rattle.lrc_outputs.specs.Plays.{AreMade, receipts_text, tracks_text};
+ghost use Rattle.lrc_outputs.specs.Plays.{AreMade, IsTrackIn, batches_text, tracks_text};
 ghost use Rattle.lrc_outputs.specs.Outputs.{IsPlayed};
 ghost use Rattle.lrc_streams.specs.declared.streams.RunFault.TheVariants as fault;
 
-use lrc_book::{Book, Command};
+use lrc_book::{Book, Command, Record};
 use lrc_code::SessionNo;
 use lrc_sessions::{
-    FinishError, Manager, Naming, OpenError, OpenGate, Parts, Receipt, Stop, Track, run_sessions,
+    Batch, FinishError, Manager, Naming, OpenError, OpenGate, Parts, Stop, Track, run_sessions,
 };
 use lrc_streams::RunFault;
-use lrc_text::{push_reply_line, push_script_line, with_tables};
+use lrc_text::{push_lines, push_script_line, with_tables};
 use lrc_topology::Topology;
 use std::alloc::{AllocError, Global};
 use std::marker::Brand;
 use std::sync::Wait;
 use std::thread::Threads;
+
+/// Room for the lines of a batch: `BATCH_LIMIT` times `LINE_ROOM`.
+const BATCH_ROOM: usize = 56320;
 
 /// The result of several scripts: the book, and the track of each.
 #[derive(Drop)]
@@ -38,9 +42,11 @@ pub(crate) fn play_together<T: Threads + Wait + Sync>(
     alloc: Global,
     topology: Topology,
     scripts: &[Vec<Command>],
+    room: Vec<u8>,
 ) -> Result<Vec<u8>, RunFault>
     requires several { (1 < length scripts.now) × (length scripts.now ≤ 8) }
     requires few { AreFew scripts.now }
+    requires empty { room.items ≡ [] }
     ensures played { IfOk result (λ text. IsPlayed topology (lists_of scripts.now) text.items) }
     ensures err { IfErr result (λ e. (e ≡ fault.OutOfMemory) ⊎ (e ≡ fault.NoReader)) }
 {
@@ -48,7 +54,7 @@ pub(crate) fn play_together<T: Threads + Wait + Sync>(
         return Err(RunFault::OutOfMemory);
     };
     let played = run_each::<Brand, _>(rt, alloc, parts, scripts)?;
-    let text = print_tracks(alloc, played.tracks.as_slice())?;
+    let text = print_tracks(room, played.book.history(), played.tracks.as_slice())?;
     let whole = with_tables(alloc, text, &played.book)?;
     Ok(whole)
 }
@@ -73,7 +79,8 @@ fn run_each<N: Naming + Send + Sync, T: Threads + Wait + Sync>(
     ensures base { IfOk result (λ p. p.book.base ≡ first_world) }
     ensures tracks { IfOk result (λ p. length p.tracks.items ≤ 8) }
     ensures made { IfOk result
-        (λ p. AreMade parts.topology (lists_of scripts.now) p.book.history (tracks_text 1 p.tracks.items)) }
+        (λ p. AreMade parts.topology (lists_of scripts.now) p.book.history (tracks_text p.book.history 1 p.tracks.items)) }
+    ensures within { IfOk result (λ p. All (IsTrackIn p.book.history) p.tracks.items) }
     ensures err { IfErr result (λ e. (e ≡ fault.OutOfMemory) ⊎ (e ≡ fault.NoReader)) }
 {
     let (manager, sessions) = match Manager::<N>::open(alloc, rt, parts) {
@@ -108,26 +115,41 @@ fn unstopped(tracks: Vec<Track>) -> Result<Vec<Track>, RunFault>
     Ok(tracks)
 }
 
-/// The lines of the tracks of the sessions from 1 on, in order.
-fn print_tracks(alloc: Global, tracks: &[Track]) -> Result<Vec<u8>, RunFault>
-    requires { length tracks.now ≤ 8 }
-    ensures text { IfOk result (λ text. text.items ≡ tracks_text 1 tracks.now) }
+/// Writes the lines of the tracks of the sessions from 1 on, in order.
+fn print_tracks(empty: Vec<u8>, history: &[Record], tracks: &[Track]) -> Result<Vec<u8>, RunFault>
+    requires few { (length tracks.now ≤ 8) × (length history.now ≤ 1000000) }
+    requires within { All (IsTrackIn history.now) tracks.now }
+    requires empty { empty.items ≡ [] }
+    ensures text { IfOk result (λ text. text.items ≡ tracks_text history.now 1 tracks.now) }
     ensures err { IfErr result (λ e. e ≡ fault.OutOfMemory) }
 {
-    let mut text = Vec::new(alloc);
+    let mut text = empty;
+    let mut room = [0u8; BATCH_ROOM];
     for (index, track) in tracks.iter().enumerate() {
         let session = SessionNo::new(index as u8 + 1).unwrap();
         push_script_line(&mut text, session)?;
-        push_receipts(&mut text, track.receipts.as_slice())?;
+        push_batches(&mut text, history, track.batches.as_slice(), &mut room)?;
     }
     Ok(text)
 }
 
-fn push_receipts(out: &mut Vec<u8>, receipts: &[Receipt]) -> Result<(), AllocError>
-    ensures { OnOk result (out.new.items ≡ out.old.items ++ receipts_text receipts.now) }
+/// Adds the lines of the calls of batches. They are first written into `room`.
+fn push_batches(
+    out: &mut Vec<u8>,
+    history: &[Record],
+    batches: &[Batch],
+    room: &mut [u8],
+) -> Result<(), AllocError>
+    requires few { length history.now ≤ 1000000 }
+    requires within { All (IsBatchIn 256 history.now) batches.now }
+    requires room { length room.old ≡ BATCH_ROOM }
+    ensures same { length room.new ≡ length room.old }
+    ensures lines { OnOk result (out.new.items ≡ out.old.items ++ batches_text history.now batches.now) }
 {
-    for receipt in receipts {
-        push_reply_line(out, receipt.place as usize, &receipt.reply)?;
+    for batch in batches {
+        let first = batch.first as usize;
+        let records = &history[first - 1..first - 1 + batch.count as usize];
+        push_lines(out, records, first, room)?;
     }
     Ok(())
 }

@@ -49,30 +49,30 @@ pub all_fresh : (count : ℕ) → AreAll count (fresh count)
 all_fresh count k low high = fresh_times k count low
 
 -- sessions that are all still are after they ran scripts
-pub all_ran : {Z : Type 0} (count limit : ℕ) (may_stop : Type 0) (passes : ℕ → ℕ → Type 0) (scripts : List (Vec Command Z)) (before after : List SessionView) (tracks : List Track)
-    → AreAll count before → length before ≡ length scripts → AreRun limit may_stop passes scripts before after tracks → AreAll count after
-all_ran count limit may_stop passes scripts before after tracks all len ran k low high =
+pub all_ran : {Z : Type 0} (count limit most : ℕ) (may_stop : Type 0) (passes : ℕ → ℕ → Type 0) (scripts : List (Vec Command Z)) (before after : List SessionView) (tracks : List Track)
+    → AreAll count before → length before ≡ length scripts → AreRun limit most may_stop passes scripts before after tracks → AreAll count after
+all_ran count limit most may_stop passes scripts before after tracks all len ran k low high =
     same_times k after before (ran.0 ∙ sym len)
     (λ i a b within.
     let below : i < length scripts = omega (arith, within, ran.0) in
-    (ran.2 i (some_of scripts i below) b a (some_of tracks i (omega (arith, below, ran.1))) below).0)
+    (ran.2 i (some_of scripts i below) b a (some_of tracks i (omega (arith, below, ran.1))) below).0.0)
     ∙ all k low high
 
 pub length_fresh : (count : ℕ) → length (fresh count) ≡ count
 length_fresh count = length-map-range_with_len (λ (k : ℕ). record { number = k; made = 0; seen = [] }) 1 count
 
 -- the same if the run had no memory
-pub all_left : {Z : Type 0} (count limit : ℕ) (may_stop : Type 0) (passes : ℕ → ℕ → Type 0) (scripts : List (Vec Command Z)) (before after : Vec SessionView Global)
+pub all_left : {Z : Type 0} (count limit most : ℕ) (may_stop : Type 0) (passes : ℕ → ℕ → Type 0) (scripts : List (Vec Command Z)) (before after : Vec SessionView Global)
     (ran : Result (Vec Track Global) Fault)
     → before.items ≡ fresh count → length before.items ≡ length scripts
-    → IfOk ran (λ tracks. AreRun limit may_stop passes scripts before.items after.items tracks.items)
+    → IfOk ran (λ tracks. AreRun limit most may_stop passes scripts before.items after.items tracks.items)
     → IfErr ran (λ e. (e ≡ fault.OutOfMemory) × (after ≡ before)) → AreAll count after.items
-all_left count limit may_stop passes scripts before after ran is len ok err = left ran ok err
+all_left count limit most may_stop passes scripts before after ran is len ok err = left ran ok err
   where
     all : AreAll count before.items
     all = subst (AreAll count) (sym is) (all_fresh count)
 
-    left : (r : Result (Vec Track Global) Fault) → IfOk r (λ tracks. AreRun limit may_stop passes scripts before.items after.items tracks.items)
+    left : (r : Result (Vec Track Global) Fault) → IfOk r (λ tracks. AreRun limit most may_stop passes scripts before.items after.items tracks.items)
         → IfErr r (λ e. (e ≡ fault.OutOfMemory) × (after ≡ before)) → AreAll count after.items
-    left (Ok tracks) ok err = all_ran count limit may_stop passes scripts before.items after.items tracks.items all len ok
+    left (Ok tracks) ok err = all_ran count limit most may_stop passes scripts before.items after.items tracks.items all len ok
     left (Err e) ok err = subst (AreAll count) (ap (λ v. v.items) (sym err.1)) all

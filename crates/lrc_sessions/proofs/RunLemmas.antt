@@ -3,12 +3,12 @@ use Rattle.std.proofs.Common.{ℕ, ◌+◌, ◌<◌, inl, inr, List, [], ◌∷�
 use Rattle.std.proofs.lemmas.List.{map-append, get_or-map, get_or_push, get_or_append_left, length-map}
 use Rattle.std.proofs.Math.Seq.{take-append_seam}
 use Rattle.std.proofs.lemmas.Bool.{cases_lt}
-use Rattle.lrc_board.specs.declared.receipt.Receipt.{Receipt}
+use Rattle.lrc_board.specs.declared.batch.Batch.{Batch}
 use Rattle.lrc_sessions.specs.declared.track.Stop.{Stop}
 use Rattle.lrc_sessions.specs.declared.track.Track.{Track}
 use Rattle.lrc_rules.specs.declared.command.Command.{Command}
 use Rattle.lrc_sessions.specs.Views.{SessionView}
-use Rattle.lrc_sessions.specs.Runs.{IsRun, AreRun}
+use Rattle.lrc_sessions.specs.Runs.{IsRunInBatches, AreRun}
 use Rattle.lrc_sessions.specs.Buffers.{HasRoomFor, HaveRoomFor}
 
 -- a list that is not empty is its first element and the rest
@@ -40,30 +40,30 @@ some_of [] i low = absurd (omega arith)
 some_of (x ∷ xs) i low = x
 
 -- if each worker ran its script, then the collected sessions and tracks are the results of the scripts
-pub AreRun-taken : {W Z : Type 0} (session : W → SessionView) (receipts : W → List Receipt) (stopped : W → Option Stop) (limit : ℕ) (may_stop : Type 0) (passes : ℕ → ℕ → Type 0)
+pub AreRun-taken : {W Z : Type 0} (session : W → SessionView) (batches : W → List Batch) (stopped : W → Option Stop) (limit most : ℕ) (may_stop : Type 0) (passes : ℕ → ℕ → Type 0)
     (scripts : List (Vec Command Z)) (old new : List W) → length old ≡ length scripts → length new ≡ length scripts
     → ((i : ℕ) (w : W) (s : Vec Command Z) → i < length scripts
-    → IsRun limit may_stop passes (get_or scripts i s).items (session (get_or old i w)) (session (get_or new i w)) (receipts (get_or new i w)) (stopped (get_or new i w)))
-    → AreRun limit may_stop passes scripts (map session old) (map session new) (map (λ w. record { receipts = receipts w; stopped = stopped w }) new)
-AreRun-taken {W} session receipts stopped limit may_stop passes scripts old new len len' ran = (
+    → IsRunInBatches limit most may_stop passes (get_or scripts i s).items (session (get_or old i w)) (session (get_or new i w)) (batches (get_or new i w)) (stopped (get_or new i w)))
+    → AreRun limit most may_stop passes scripts (map session old) (map session new) (map (λ w. record { batches = batches w; stopped = stopped w }) new)
+AreRun-taken {W} session batches stopped limit most may_stop passes scripts old new len len' ran = (
   length-map new session ∙ len',
-  length-map new (λ w. record { receipts = receipts w; stopped = stopped w }) ∙ len',
+  length-map new (λ w. record { batches = batches w; stopped = stopped w }) ∙ len',
   λ i s b a t low.
       let w : W = some_of new i (omega arith) in
       let x = get_or new i w in
-      let track : W → Track = λ w. record { receipts = receipts w; stopped = stopped w } in
+      let track : W → Track = λ w. record { batches = batches w; stopped = stopped w } in
       rw (get_or-map session old i w b (omega arith), get_or-map session new i w a (omega arith), get_or-map track new i w t (omega arith)) (ran i w s low),
 )
 
 -- each worker has room for the calls of its script
-pub buffer_at : {W Y Z : Type 0} (receipts : W → Vec Receipt Y) (scripts : List (Vec Command Z)) (buffers : List (Vec Receipt Y)) (ws : List W)
-    → map receipts ws ≡ buffers → HaveRoomFor scripts buffers → (i : ℕ) (w : W) (s : Vec Command Z) → i < length scripts
-    → HasRoomFor (get_or scripts i s) (receipts (get_or ws i w))
-buffer_at receipts scripts buffers ws is all i w s low =
-    let long : length ws ≡ length scripts = sym (length-map ws receipts) ∙ (ap length is ∙ all.0) in
-    let at : get_or buffers i (receipts w) ≡ receipts (get_or ws i w) =
-    subst (λ rs. get_or rs i (receipts w) ≡ receipts (get_or ws i w)) is (get_or-map receipts ws i w (receipts w) (omega arith)) in
-    subst (HasRoomFor (get_or scripts i s)) at (all.1 i s (receipts w) low)
+pub buffer_at : {W Y Z : Type 0} (most : ℕ) (batches : W → Vec Batch Y) (scripts : List (Vec Command Z)) (buffers : List (Vec Batch Y)) (ws : List W)
+    → map batches ws ≡ buffers → HaveRoomFor most scripts buffers → (i : ℕ) (w : W) (s : Vec Command Z) → i < length scripts
+    → HasRoomFor most (get_or scripts i s) (batches (get_or ws i w))
+buffer_at most batches scripts buffers ws is all i w s low =
+    let long : length ws ≡ length scripts = sym (length-map ws batches) ∙ (ap length is ∙ all.0) in
+    let at : get_or buffers i (batches w) ≡ batches (get_or ws i w) =
+    subst (λ bs. get_or bs i (batches w) ≡ batches (get_or ws i w)) is (get_or-map batches ws i w (batches w) (omega arith)) in
+    subst (HasRoomFor most (get_or scripts i s)) at (all.1 i s (batches w) low)
 
 -- a list that is written over another one of its length
 pub written_back : {X : Type 0} (xs ys : List X) (n : ℕ) → length xs ≡ n → take n (xs ++ drop (length xs) ys) ≡ xs

@@ -12,6 +12,7 @@ pub mod Counts
 pub mod Errors
 pub mod Locked
 pub mod Calls
+pub mod Receipts
 pub mod Closing
 pub mod Runs
 pub mod Buffers

@@ -1,21 +1,23 @@
-ghost use Rattle.std.specs.Prelude.{◌≡◌, ◌+◌, ◌<◌, ◌≤◌, [], length, true, IfOk, OnOk, OnErr, IfErr, IsOk};
+ghost use Rattle.std.specs.Prelude.{◌≡◌, ◌≢◌, ◌⊎◌, ◌+◌, ◌<◌, ◌≤◌, [], length, take};
+ghost use Rattle.std.specs.Prelude.{true, ◌↔◌, Some, None, IsTrue, IfSome, IfOk, IfErr, IsOk};
 ghost use mathlib.Core.List.{IsPrefix};
+ghost use Rattle.lrc_code.specs.declared.fault.Fault.TheVariants as fault;
 ghost use Rattle.lrc_rules.specs.Histories.{first_world};
 ghost use Rattle.lrc_book.specs.Books.{BookView, FaultFits};
-ghost use Rattle.lrc_sessions.specs.Locked.{IsLocked, IsMade};
-ghost use Rattle.lrc_sessions.specs.Calls.{IsCalled, IsLeft};
+ghost use Rattle.lrc_sessions.specs.Locked.{IsLocked, AreMadeBy};
+ghost use Rattle.lrc_sessions.specs.Calls.{IsCalled, AreCalled, IsLeft, IsFullIn};
 
 use crate::naming::Naming;
 use crate::session::Session;
-use lrc_board::{Keeper, Receipt};
+use lrc_board::{Batch, Keeper, Receipt};
 use lrc_book::Command;
 use lrc_code::Fault;
 use std::marker::Model;
 use std::sync::Wait;
 use std::sync::ledger::{Book as Tally, Share};
 
-/// The state that the manager's lock guards: the keeper of the book, the ledger that counts the calls, and the shares that no session
-/// has. It is not `Drop`, because the keeper is not; `into_parts` ends it.
+/// The state that the manager's lock guards: the keeper of the book, the ledger that counts the calls, and the shares
+/// that no session has. It is not `Drop`, because the keeper is not; `into_parts` ends it.
 pub(crate) struct LockedState<N: Naming> {
     keeper: Keeper<N>,
     tally: Tally<N>,
@@ -50,22 +52,55 @@ impl<N: Naming> LockedState<N> {
         }
     }
 
-    /// Makes one call of a session: makes and publishes one step of the placement object, and adds one to the session's count.
-    /// The session has then seen the whole history, also if the history is full.
+    /// Makes one call of a session, as a batch of one.
     pub(crate) fn call<R: Wait>(
         &mut self,
         rt: &R,
         session: &mut Session<N>,
         command: Command,
     ) -> Result<Receipt, Fault>
-        ensures made { IfOk result (λ r. IsMade N.topology self.old.history session.old.number command r.reply self.new.history) }
-        ensures place { IfOk result (λ r. (r.place ≡ length self.new.history) × (session.new.made ≤ r.place) × (r.place ≤ N.limit)) }
-        ensures seen { OnOk result (session.new.seen ≡ self.new.history) }
         ensures called { IfOk result (λ r. IsCalled N.topology session.old command r session.new) }
-        ensures fault { IfErr result (FaultFits self.old) }
+        ensures place { IfOk result (λ r. (session.new.made ≤ r.place) × (r.place ≤ N.limit)) }
         ensures enough { self.old.ready ≡ true → length self.old.history < self.old.limit → IsOk result }
-        ensures err { OnErr result (self.new.history ≡ self.old.history) }
         ensures left { IfErr result (λ f. IsLeft N.topology N.limit session.old f session.new) }
+    {
+        let (batch, fault) = self.call_all(rt, session, &[command]);
+        if let Some(fault) = fault {
+            return Err(fault);
+        }
+        let history = self.keeper.book().history();
+        let last = &history[history.len() - 1];
+        Ok(Receipt {
+            place: batch.first,
+            reply: last.reply(),
+        })
+    }
+
+    /// Makes calls of a session in order: makes each as one step of the placement object, publishes them together, and
+    /// adds their number to the session's count. A fault ends the batch: the calls before it are made. The session has
+    /// then seen the whole history, unless `OutOfMemory` came before the first call.
+    pub(crate) fn call_all<R: Wait>(
+        &mut self,
+        rt: &R,
+        session: &mut Session<N>,
+        commands: &[Command],
+    ) -> (Batch, Option<Fault>)
+        requires few { length commands.now ≤ 256 }
+        ensures first { result.0.first ≡ length self.old.history + 1 }
+        ensures some { result.0.count ≤ length commands.now }
+        ensures made { AreMadeBy self.old.history session.old.number (take result.0.count commands.now)
+            self.new.history }
+        ensures called { AreCalled N.topology session.old (take result.0.count commands.now) result.0.first
+            session.new }
+        ensures left { result.0.count ≡ 0 → result.1 ≡ Some fault.OutOfMemory → session.new ≡ session.old }
+        ensures seen { (0 < result.0.count) ⊎ (result.1 ≢ Some fault.OutOfMemory)
+            → session.new.seen ≡ self.new.history }
+        ensures place { (session.new.made ≤ length session.new.seen) × (length session.new.seen ≤ N.limit) }
+        ensures all { result.1 ≡ None → result.0.count ≡ length commands.now }
+        ensures fault { IfSome result.1 (λ f. (result.0.count < length commands.now) × FaultFits self.new f
+            × IsFullIn N.limit session.new.seen f) }
+        ensures enough { self.old.ready ≡ true → length self.old.history < self.old.limit → 0 < length commands.now
+            → 0 < result.0.count }
     {
         let LockedState {
             keeper,
@@ -79,20 +114,16 @@ impl<N: Naming> LockedState<N> {
             viewer,
         } = session;
         keeper.covers(viewer);
-        let receipt = match keeper.apply(rt, *number, command) {
-            Ok(receipt) => receipt,
-            Err(Fault::HistoryFull) => {
-                keeper.advance(viewer);
-                return Err(Fault::HistoryFull);
-            }
-            Err(Fault::OutOfMemory) => return Err(Fault::OutOfMemory),
-        };
+        let (batch, fault) = keeper.apply_all(rt, *number, commands);
+        if is_unmade(&batch, fault) {
+            return (batch, fault);
+        }
         let _entries = keeper.book().history();
         keeper.advance(viewer);
-        tally.add(share, 1);
+        tally.add(share, batch.count);
         tally.audit(share);
-        *made += 1;
-        Ok(receipt)
+        *made += batch.count;
+        (batch, fault)
     }
 
     /// Moves the session to the end of the history.
@@ -118,4 +149,11 @@ impl<N: Naming> LockedState<N> {
         } = self;
         (keeper, tally, rest)
     }
+}
+
+/// Reports whether memory was refused before the first call of a batch, so that nothing changed.
+fn is_unmade(batch: &Batch, ended: Option<Fault>) -> bool
+    ensures { IsTrue result ↔ ((batch.now.count ≡ 0) × (ended ≡ Some fault.OutOfMemory)) }
+{
+    batch.count == 0 && matches!(ended, Some(Fault::OutOfMemory))
 }

@@ -1,15 +1,17 @@
-ghost use Rattle.std.specs.Prelude.{◌≡◌, ◌≢◌, ◌+◌, ◌≤◌, [], length, replicate, vec_capacity, IfOk, IfErr, OnOk};
+ghost use Rattle.std.specs.Prelude.{◌≡◌, ◌≢◌, ◌+◌, ◌<◌, ◌≤◌, [], length, replicate};
+ghost use Rattle.std.specs.Prelude.{take, vec_capacity, Some, None, IfSome, IfOk, IfErr, OnOk};
 ghost use mathlib.Core.List.{IsPrefix};
+ghost use Rattle.lrc_code.specs.declared.fault.Fault.TheVariants as fault;
 ghost use Rattle.lrc_rules.specs.Histories.{IsLegal};
 ghost use Rattle.lrc_board.specs.declared.open_error.OpenError.TheVariants as error;
 ghost use Rattle.lrc_sessions.specs.Views.{ManagerView, SessionView, fresh};
-ghost use Rattle.lrc_sessions.specs.Calls.{IsCalled, IsLeft};
+ghost use Rattle.lrc_sessions.specs.Calls.{IsCalled, AreCalled, IsLeft, IsFullIn};
 
 use crate::locked_state::LockedState;
 use crate::naming::Naming;
 use crate::parts::Parts;
 use crate::session::Session;
-use lrc_board::{Keeper, OpenError, Receipt, Viewer};
+use lrc_board::{Batch, Keeper, OpenError, Receipt, Viewer};
 use lrc_book::Command;
 use lrc_code::{Fault, SessionNo};
 use std::alloc::{AllocError, Global};
@@ -37,8 +39,8 @@ impl<N: Naming> Model for Manager<N> {
 }
 
 impl<N: Naming> Manager<N> {
-    /// Opens a manager with a new book, and its sessions, which have the numbers from 1 to the count of the parts, in order. It
-    /// takes no lock. It takes the runtime for `Keeper::open`, which has no viewer to wait for.
+    /// Opens a manager with a new book, and its sessions, which have the numbers from 1 to the count of the parts, in
+    /// order. It takes no lock. It takes the runtime for `Keeper::open`, which has no viewer to wait for.
     ///
     /// # Errors
     ///
@@ -83,8 +85,9 @@ impl<N: Naming> Manager<N> {
         self.count
     }
 
-    /// Makes one call of a session under the lock, and publishes it. It waits for the lock, and for looks that began before the
-    /// last call. A `Fault` changes nothing, except that after `HistoryFull` the session has seen the whole history.
+    /// Makes one call of a session under the lock, and publishes it. It waits for the lock, and for looks that began
+    /// before the last call. A `Fault` changes nothing, except that after `HistoryFull` the session has seen the whole
+    /// history.
     ///
     /// # Errors
     ///
@@ -101,6 +104,40 @@ impl<N: Naming> Manager<N> {
     {
         let mut state = self.state.lock(rt);
         let called = state.call(rt, session, command);
+        MutexGuard::unlock(state);
+        called
+    }
+
+    /// Makes up to 256 calls of a session in order, in one batch: it takes the lock once, and publishes the calls
+    /// together. It waits for the lock, and for looks that began before the last batch. Returns the batch of the calls
+    /// that were made, and the fault that ended it. A `Fault` ends the batch before the call that returned it: the
+    /// calls before it are made, and it and those after it are not. The session has then seen the whole history, unless
+    /// `OutOfMemory` came before the first call, which changes nothing. The history has the replies.
+    ///
+    /// # Errors
+    ///
+    /// `Fault::HistoryFull` if the history has as many entries as its limit and commands are left; otherwise only
+    /// `Fault::OutOfMemory`.
+    pub fn call_all<R: Wait>(
+        &self,
+        rt: &R,
+        session: &mut Session<N>,
+        commands: &[Command],
+    ) -> (Batch, Option<Fault>)
+        requires few { length commands.now ≤ 256 }
+        // the calls that were made
+        ensures some { result.0.count ≤ length commands.now }
+        ensures made { AreCalled N.topology session.old (take result.0.count commands.now) result.0.first session.new }
+        ensures place { (session.new.made ≤ length session.new.seen) × (length session.new.seen ≤ N.limit) }
+        // without a fault they are all, and the last entries that the session has seen
+        ensures all { result.1 ≡ None → (result.0.count ≡ length commands.now)
+            × (result.0.first + result.0.count ≡ length session.new.seen + 1) }
+        ensures fault { IfSome result.1
+            (λ f. (result.0.count < length commands.now) × IsFullIn N.limit session.new.seen f) }
+        ensures left { result.0.count ≡ 0 → result.1 ≡ Some fault.OutOfMemory → session.new ≡ session.old }
+    {
+        let mut state = self.state.lock(rt);
+        let called = state.call_all(rt, session, commands);
         MutexGuard::unlock(state);
         called
     }

@@ -1,7 +1,7 @@
-ghost use Rattle.std.specs.Prelude.{◌≡◌, ℕ, ◌<◌, ◌≤◌, [], length, vec_capacity, slice_index_or, IfOk, IfErr};
+ghost use Rattle.std.specs.Prelude.{◌≡◌, ℕ, ◌*◌, ◌<◌, ◌≤◌, [], length, vec_capacity, slice_index_or, IfOk, IfErr};
 ghost use Rattle.lrc_code.specs.declared.fault.Fault.TheVariants as fault;
 ghost use Rattle.lrc_sessions.specs.Buffers.{HaveRoomFor};
-ghost use Rattle.lrc_sessions.specs.Runs.{Passes, IsRun, AreRun};
+ghost use Rattle.lrc_sessions.specs.Runs.{Passes, IsRunInBatches, AreRun};
 
 use crate::gate::Gate;
 use crate::manager::Manager;
@@ -17,8 +17,10 @@ use std::sync::Wait;
 use std::thread;
 use std::thread::Threads;
 
-/// Runs script `i` by session `i`, each on a thread of its own if the system starts one, and returns the sessions in their order. A
-/// script stops at its first call that returns a `Fault`, or where the gate stops it.
+/// Runs script `i` by session `i`, each on a thread of its own if the system starts one, and returns the sessions in
+/// their order. It makes the calls of a session in batches of at most the gate's limit, each under one lock; the
+/// batches of the sessions interleave. A script stops at its first call that returns a `Fault`, or where the gate stops
+/// it.
 ///
 /// # Errors
 ///
@@ -32,19 +34,21 @@ pub fn run_sessions<N: Naming + Send + Sync, R: Threads + Wait + Sync, G: Gate +
     gate: &G,
 ) -> (Vec<Session<N>>, Result<Vec<Track>, Fault>)
     requires { length sessions.items ≡ length scripts.now }
-    ensures ok { IfOk result.1 (λ tracks. AreRun N.limit G.may_stop (Passes G.lets G.tells) scripts.now sessions.items result.0.items tracks.items) }
+    ensures ok { IfOk result.1 (λ tracks. AreRun N.limit G.most G.may_stop (Passes G.lets G.tells) scripts.now
+        sessions.items result.0.items tracks.items) }
     ensures err { IfErr result.1 (λ e. (e ≡ fault.OutOfMemory) × (result.0 ≡ sessions)) }
 {
-    match RunBuffers::new(alloc, scripts) {
+    let most = gate.batch_limit();
+    match RunBuffers::new(alloc, scripts, most) {
         Ok(buffers) => {
-            let tracks = run_in(rt, manager, &mut sessions, buffers, scripts, gate);
+            let tracks = run_in(rt, manager, &mut sessions, buffers, scripts, gate, most);
             (sessions, Ok(tracks))
         }
         Err(fault) => (sessions, Err(fault)),
     }
 }
 
-/// Runs script `i` by session `i`, in memory that was allocated before.
+/// Runs script `i` by session `i`, with at most `most` calls in each batch, in memory that was allocated before.
 fn run_in<N: Naming + Send + Sync, R: Threads + Wait + Sync, G: Gate + Sync>(
     rt: &R,
     manager: &Manager<N>,
@@ -52,15 +56,18 @@ fn run_in<N: Naming + Send + Sync, R: Threads + Wait + Sync, G: Gate + Sync>(
     buffers: RunBuffers<N>,
     scripts: &[Vec<Command>],
     gate: &G,
+    most: usize,
 ) -> Vec<Track>
     requires sessions { (length sessions.old.items ≡ length scripts.now) × (length scripts.now ≤ vec_capacity sessions.old) }
-    requires receipts { HaveRoomFor scripts.now buffers.receipts.items }
+    requires batches { HaveRoomFor most scripts.now buffers.batches.items }
+    requires most { (1 ≤ most) × (most ≤ G.most) × (most ≤ 256) }
     requires workers { (buffers.workers.items ≡ []) × (length scripts.now ≤ vec_capacity buffers.workers) }
     requires tracks { (buffers.tracks.items ≡ []) × (length scripts.now ≤ vec_capacity buffers.tracks) }
-    ensures { AreRun N.limit G.may_stop (Passes G.lets G.tells) scripts.now sessions.old.items sessions.new.items result.items }
+    ensures { AreRun N.limit G.most G.may_stop (Passes G.lets G.tells) scripts.now
+        sessions.old.items sessions.new.items result.items }
 {
     let (mut workers, mut tracks) = buffers.assign_sessions(sessions);
-    run_workers(rt, manager, &mut workers, scripts, gate);
+    run_workers(rt, manager, &mut workers, scripts, gate, most);
     collect_results(workers, sessions, &mut tracks);
     tracks
 }
@@ -72,15 +79,20 @@ fn run_workers<N: Naming + Send + Sync, R: Threads + Wait + Sync, G: Gate + Sync
     workers: &mut Vec<Worker<N>>,
     scripts: &[Vec<Command>],
     gate: &G,
+    most: usize,
 )
     requires same { length workers.old.items ≡ length scripts.now }
-    requires empty { (i : ℕ) (w : _) → i < length scripts.now → (slice_index_or workers.old.items i w).receipts.items ≡ [] }
+    requires empty { (i : ℕ) (w : _) → i < length scripts.now
+        → (slice_index_or workers.old.items i w).batches.items ≡ [] }
     requires room { (i : ℕ) (w : _) (s : _) → i < length scripts.now
-        → length (slice_index_or scripts.now i s).items ≤ vec_capacity (slice_index_or workers.old.items i w).receipts }
+        → length (slice_index_or scripts.now i s).items
+        ≤ vec_capacity (slice_index_or workers.old.items i w).batches * most }
+    requires most { (1 ≤ most) × (most ≤ G.most) × (most ≤ 256) }
     ensures same { length workers.new.items ≡ length scripts.now }
     ensures run { (i : ℕ) (w : _) (s : _) → i < length scripts.now
-        → IsRun N.limit G.may_stop (Passes G.lets G.tells) (slice_index_or scripts.now i s).items (slice_index_or workers.old.items i w).session
-        (slice_index_or workers.new.items i w).session (slice_index_or workers.new.items i w).receipts.items (slice_index_or workers.new.items i w).stopped }
+        → IsRunInBatches N.limit G.most G.may_stop (Passes G.lets G.tells) (slice_index_or scripts.now i s).items
+        (slice_index_or workers.old.items i w).session (slice_index_or workers.new.items i w).session
+        (slice_index_or workers.new.items i w).batches.items (slice_index_or workers.new.items i w).stopped }
 {
     if workers.is_empty() {
         return;
@@ -91,10 +103,11 @@ fn run_workers<N: Naming + Send + Sync, R: Threads + Wait + Sync, G: Gate + Sync
         workers.as_mut_slice(),
         threads,
         &|i: usize, worker: &mut Worker<N>|
-            requires { (i < length scripts.now) × (worker.old.receipts.items ≡ [])
-                × ((s : _) → length (slice_index_or scripts.now i s).items ≤ vec_capacity worker.old.receipts) }
-            ensures { (s : _) → IsRun N.limit G.may_stop (Passes G.lets G.tells) (slice_index_or scripts.entry.now i s).items
-                worker.old.session worker.new.session worker.new.receipts.items worker.new.stopped }
-        { worker.run(rt, manager, scripts[i].as_slice(), gate) },
+            requires { (i < length scripts.now) × (worker.old.batches.items ≡ [])
+                × ((s : _) → length (slice_index_or scripts.now i s).items ≤ vec_capacity worker.old.batches * most)
+                × (1 ≤ most) × (most ≤ G.most) × (most ≤ 256) }
+            ensures { (s : _) → IsRunInBatches N.limit G.most G.may_stop (Passes G.lets G.tells)
+                (slice_index_or scripts.entry.now i s).items worker.old.session worker.new.session worker.new.batches.items worker.new.stopped }
+        { worker.run(rt, manager, scripts[i].as_slice(), gate, most) },
     );
 }

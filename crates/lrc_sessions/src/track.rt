@@ -1,6 +1,6 @@
 ghost use Rattle.std.specs.Prelude.{◌≡◌};
 
-use lrc_board::Receipt;
+use lrc_board::Batch;
 use lrc_code::Fault;
 use std::marker::Model;
 
@@ -13,33 +13,34 @@ pub enum Stop {
     Gate,
 }
 
-/// The receipts of a script's calls, in order.
+/// The batches of a script's calls, in order.
 #[derive(Drop)]
-pub struct Receipts {
-    pub(crate) items: Vec<Receipt>,
+pub struct Batches {
+    pub(crate) items: Vec<Batch>,
 }
 
-impl Model for Receipts {
+impl Model for Batches {
     ghost use Rattle.std.specs.Prelude.{List};
-    ghost use Rattle.lrc_board.specs.declared.receipt.Receipt.{Receipt};
+    ghost use Rattle.lrc_board.specs.declared.batch.Batch.{Batch};
 
-    ghost Value = { List Receipt };
+    ghost Value = { List Batch };
 
-    ghost view = { λ r. r.items.items };
+    ghost view = { λ b. b.items.items };
 }
 
-impl Receipts {
-    /// Returns the receipts, in the order of the calls.
-    pub fn as_slice(&self) -> &[Receipt]
+impl Batches {
+    /// Returns the batches, in the order of the calls. The history has the replies of their calls.
+    pub fn as_slice(&self) -> &[Batch]
         ensures { result.now ≡ self.now }
     {
         self.items.as_slice()
     }
 }
 
-/// The result of a script: the receipts of the calls that were made, and why it stopped. If nothing stopped it, it made all calls.
+/// The result of a script: the batches of the calls that were made, and why it stopped. If nothing stopped it, it made
+/// all calls.
 #[derive(Drop)]
 pub struct Track {
-    pub receipts: Receipts,
+    pub batches: Batches,
     pub stopped: Option<Stop>,
 }

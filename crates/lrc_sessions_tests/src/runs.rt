@@ -1,7 +1,8 @@
 //! What tests of scripts have in common: scripts, their runs, and what is expected after a run.
 
-ghost use Rattle.std.specs.Prelude.{◌≡◌, ◌≤◌};
+ghost use Rattle.std.specs.Prelude.{◌≡◌, ◌≤◌, ⊤};
 
+mod batches;
 mod crowd;
 mod gates;
 mod late;
@@ -9,12 +10,12 @@ mod limits;
 mod mixed;
 mod replay;
 
-use lrc_book::Command;
+use lrc_book::{Command, Record};
 use lrc_code::{Fragment, NodeNo, SessionNo, StripeNo};
 use lrc_samples::twenty_nodes;
 use lrc_sessions::{
-    Closing, FinishError, Gate, GateError, Manager, Naming, Parts, Session, Stop, Track,
-    run_sessions,
+    BATCH_LIMIT, Batch, Closing, FinishError, Gate, GateError, Manager, Naming, Parts, Receipt,
+    Session, Stop, Track, run_sessions,
 };
 use std::alloc::Global;
 use std::marker::Brand;
@@ -46,6 +47,35 @@ const TURNS: u32 = 3_000_000_000;
 
 /// The most entries of a history.
 const LIMIT: u32 = 1_000_000;
+
+/// A gate that neither stops nor delays a call, with this limit of a batch.
+#[derive(Clone, Copy)]
+struct Batched(usize);
+
+impl Gate for Batched {
+    ghost use Rattle.std.specs.Prelude.{⊤};
+
+    ghost most = { 256 };
+
+    ghost may_stop = { ⊥ };
+
+    ghost lets = { λ _ _. ⊤ };
+
+    ghost tells = { λ _ _. ⊤ };
+
+    fn batch_limit(&self) -> usize {
+        self.0.max(1).min(BATCH_LIMIT)
+    }
+
+    fn before(&self, _session: SessionNo, _n: u64) -> Result<(), GateError> {
+        Ok(())
+    }
+
+    fn after(&self, _session: SessionNo, _n: u64) {}
+}
+
+/// The gate of a run whose sessions take the lock for each call.
+const ONE_BY_ONE: Batched = Batched(1);
 
 /// Returns a script of each row.
 fn scripts(alloc: Global, rows: &[&[Command]]) -> Result<Vec<Vec<Command>>, Fail> {
@@ -164,10 +194,46 @@ fn wait_for(flag: &AtomicBool) -> Result<(), GateError> {
     Err(GateError)
 }
 
-/// Expects why a script was stopped, and the number of its receipts.
-fn expect_track(rt: &impl Abort, track: &Track, stopped: Option<Stop>, receipts: usize) {
+/// Expects why a script was stopped, and the number of its calls.
+fn expect_track(rt: &impl Abort, track: &Track, stopped: Option<Stop>, calls: u64) {
     assert!(rt; track.stopped == stopped);
-    assert_eq!(rt; track.receipts.as_slice().len(), receipts);
+    let mut made: u64 = 0;
+    for batch in track.batches.as_slice() {
+        made = made.saturating_add(batch.count);
+    }
+    assert_eq!(rt; made, calls);
+}
+
+/// Expects the batches of a script.
+fn expect_batches(rt: &impl Abort, track: &Track, wanted: &[Batch]) {
+    assert!(rt; track.batches.as_slice() == wanted);
+}
+
+fn batch(first: u64, count: u64) -> Batch {
+    Batch { first, count }
+}
+
+/// Expects these receipts of a script whose batches have one call each, and which nothing stopped.
+fn expect_receipts(rt: &impl Abort, history: &[Record], track: &Track, wanted: &[Receipt]) {
+    let batches = track.batches.as_slice();
+    assert!(rt; batches.len() == wanted.len() && track.stopped.is_none());
+    for (i, receipt) in wanted.iter().enumerate() {
+        assert!(rt; batches[i] == batch(receipt.place, 1));
+        expect_reply(rt, history, receipt);
+    }
+}
+
+/// Expects the reply of a receipt at its place in the history.
+fn expect_reply(rt: &impl Abort, history: &[Record], receipt: &Receipt) {
+    let Some(record) = entry_at(history, receipt.place) else {
+        panic!(rt; "an entry at the place")
+    };
+    assert!(rt; record.reply() == receipt.reply);
+}
+
+/// Returns the entry at a place, counted from 1.
+fn entry_at(history: &[Record], place: u64) -> Option<&Record> {
+    history.get(place.checked_sub(1)? as usize)
 }
 
 /// Expects these calls of each session, and an entry of the history for each.

@@ -1,7 +1,8 @@
 //! Sessions of a manager over twenty-one nodes: calls by hand, and which sessions end their manager.
 
-ghost use Rattle.std.specs.Prelude.{◌≤◌};
+ghost use Rattle.std.specs.Prelude.{◌≤◌, length};
 
+mod batches;
 mod board;
 mod errors;
 mod leases;
@@ -12,7 +13,7 @@ mod scenes;
 
 use lrc_book::Command;
 use lrc_code::{Fault, SessionNo, StripeNo};
-use lrc_sessions::{Closing, FinishError, Manager, Naming, Parts, Receipt, Session};
+use lrc_sessions::{Batch, Closing, FinishError, Manager, Naming, Parts, Receipt, Session};
 use lrc_topology::Topology;
 use std::alloc::Global;
 use std::process::Abort;
@@ -118,6 +119,18 @@ fn try_call<N: Naming, R: Wait>(
     command: Command,
 ) -> Result<Receipt, Fault> {
     manager.call(rt, session, command)
+}
+
+/// Makes calls in one batch.
+fn call_all<N: Naming, R: Wait>(
+    rt: &R,
+    manager: &Manager<N>,
+    session: &mut Session<N>,
+    commands: &[Command],
+) -> (Batch, Option<Fault>)
+    requires { length commands.now ≤ 256 }
+{
+    manager.call_all(rt, session, commands)
 }
 
 /// Expects the numbers of entries that two sessions have seen.

@@ -10,7 +10,7 @@ ghost use Rattle.lrc_text.specs.Texts.{seat_text, spaced_words, reply_text, repl
 
 use crate::digits::Digits;
 use crate::parts::{write_kind, write_lease, write_seats, write_u32, write_words};
-use lrc_book::{Kind, Lease, Record, Refusal, Reply, ReplyRef, Seat};
+use lrc_book::{Kind, Lease, Record, Refusal, ReplyRef, Seat};
 use lrc_code::SessionNo;
 use std::alloc::AllocError;
 
@@ -157,15 +157,6 @@ fn write_line(number: usize, reply: &ReplyRef<'_>, text: &mut [u8], end: usize) 
 {
     let start = write_reply(reply, text, end);
     itoa::write_digits(number as u64, text, start)
-}
-
-/// Adds the line of a reply. Its call has this number in the history, counted from 1.
-pub fn push_reply_line(out: &mut Vec<u8>, number: usize, reply: &Reply) -> Result<(), AllocError>
-    ensures { OnOk result (out.new.items ≡ out.old.items ++ reply_line number reply.now) }
-{
-    let mut text = [0u8; LINE_ROOM];
-    let start = write_line(number, &ReplyRef::of(reply), &mut text, LINE_ROOM);
-    out.extend_from_slice(&text[start..])
 }
 
 /// Writes the lines of entries, of which the first has the number `100 * hundreds + rest`. The digits of `hundreds` are computed

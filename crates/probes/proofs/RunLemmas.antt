@@ -9,12 +9,12 @@ use Rattle.lrc_sessions.specs.Counts.{AreAll}
 use Rattle.lrc_sessions.specs.Runs.{AreRun}
 use Rattle.lrc_sessions.proofs.OpenedLemmas.{all_ran}
 
-pub all_after : {Z : Type 0} (count limit : ℕ) (may_stop : Type 0) (passes : ℕ → ℕ → Type 0) (scripts : List (Vec Command Z)) (before after : Vec SessionView Global)
+pub all_after : {Z : Type 0} (count limit most : ℕ) (may_stop : Type 0) (passes : ℕ → ℕ → Type 0) (scripts : List (Vec Command Z)) (before after : Vec SessionView Global)
     (ran : Result (Vec Track Global) Fault)
     → AreAll count before.items → length before.items ≡ length scripts
-    → IfOk ran (λ tracks. AreRun limit may_stop passes scripts before.items after.items tracks.items)
+    → IfOk ran (λ tracks. AreRun limit most may_stop passes scripts before.items after.items tracks.items)
     → IfErr ran (λ e. (e ≡ fault.OutOfMemory) × (after ≡ before)) → AreAll count after.items
-all_after count limit may_stop passes scripts before after (Ok tracks) all len ok err =
-    all_ran count limit may_stop passes scripts before.items after.items tracks.items all len ok
-all_after count limit may_stop passes scripts before after (Err e) all len ok err =
+all_after count limit most may_stop passes scripts before after (Ok tracks) all len ok err =
+    all_ran count limit most may_stop passes scripts before.items after.items tracks.items all len ok
+all_after count limit most may_stop passes scripts before after (Err e) all len ok err =
     subst (AreAll count) (ap (λ v. v.items) (sym err.1)) all

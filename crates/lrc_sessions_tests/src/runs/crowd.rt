@@ -20,6 +20,8 @@ struct Crowd {
 impl Gate for Crowd {
     ghost use Rattle.std.specs.Prelude.{⊤};
 
+    ghost most = { 1 };
+
     ghost may_stop = { ⊤ };
 
     ghost lets = { λ _ _. ⊤ };
@@ -37,6 +39,10 @@ impl Gate for Crowd {
     }
 
     fn after(&self, _session: SessionNo, _n: u64) {}
+
+    fn batch_limit(&self) -> usize {
+        1
+    }
 }
 
 /// The call of each waits until all eight are asked for.
@@ -70,6 +76,8 @@ struct Counting {
 impl Gate for Counting {
     ghost use Rattle.std.specs.Prelude.{⊤};
 
+    ghost most = { 1 };
+
     ghost may_stop = { ⊥ };
 
     ghost lets = { λ _ _. ⊤ };
@@ -83,6 +91,10 @@ impl Gate for Counting {
 
     fn after(&self, _session: SessionNo, n: u64) {
         self.notified.fetch_add(n, Ordering::SeqCst);
+    }
+
+    fn batch_limit(&self) -> usize {
+        1
     }
 }
 

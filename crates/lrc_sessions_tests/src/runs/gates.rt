@@ -35,6 +35,8 @@ impl Meeting {
 impl Gate for Meeting {
     ghost use Rattle.std.specs.Prelude.{⊤};
 
+    ghost most = { 1 };
+
     ghost may_stop = { ⊤ };
 
     ghost lets = { λ _ _. ⊤ };
@@ -61,6 +63,10 @@ impl Gate for Meeting {
 
     fn after(&self, _session: SessionNo, _n: u64) {
         self.notified.fetch_add(1, Ordering::SeqCst);
+    }
+
+    fn batch_limit(&self) -> usize {
+        1
     }
 }
 
@@ -107,6 +113,8 @@ impl Closed {
 impl Gate for Closed {
     ghost use Rattle.std.specs.Prelude.{⊤};
 
+    ghost most = { 1 };
+
     ghost may_stop = { ⊤ };
 
     ghost lets = { λ _ _. ⊤ };
@@ -123,6 +131,10 @@ impl Gate for Closed {
 
     fn after(&self, session: SessionNo, n: u64) {
         self.notified.fetch_add(digit(session, n), Ordering::SeqCst);
+    }
+
+    fn batch_limit(&self) -> usize {
+        1
     }
 }
 

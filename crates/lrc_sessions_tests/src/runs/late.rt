@@ -3,13 +3,13 @@
 ghost use Rattle.std.specs.Prelude.{⊤};
 
 use super::{
-    LIMIT, NODE, ONE, Ran, S1, S2, TARGET, THREE, close, expect_made, expect_track, run_rows,
+    LIMIT, NODE, ONE, Ran, S1, S2, TARGET, THREE, close, expect_made, expect_receipts, run_rows,
     wait_for,
 };
 use lrc_book::{Command, Kind, Lease, Refusal, Reply, Seat};
 use lrc_code::{Fragment, SessionNo};
 use lrc_samples::first_seats;
-use lrc_sessions::{Gate, GateError, Receipt, Track};
+use lrc_sessions::{Gate, GateError, Receipt};
 use std::process::Abort;
 use std::sync::atomic::{AtomicBool, Ordering};
 use std::test::Fail;
@@ -70,6 +70,8 @@ impl Takeover {
 impl Gate for Takeover {
     ghost use Rattle.std.specs.Prelude.{⊤};
 
+    ghost most = { 1 };
+
     ghost may_stop = { ⊤ };
 
     ghost lets = { λ _ _. ⊤ };
@@ -98,6 +100,10 @@ impl Gate for Takeover {
             _ => {}
         }
     }
+
+    fn batch_limit(&self) -> usize {
+        1
+    }
 }
 
 /// A worker comes too late: it reports a repair when another session has its lease.
@@ -122,24 +128,19 @@ fn a_late_report_is_refused_on_two_threads(rt: HostRuntime) -> Result<(), Fail> 
 fn expect_late(rt: &impl Abort, gate: &Takeover, ran: &Ran) {
     assert_eq!(rt; ran.tracks.len(), 2);
     assert!(rt; !gate.gave_up.load(Ordering::SeqCst));
+    let history = ran.closing.book.history();
     let late = [
         receipt(1, Reply::Placed(first_seats())),
         receipt(2, Reply::Changed),
         receipt(3, granted(3, S1, 1)),
         receipt(6, Reply::Refused(Refusal::Stale)),
     ];
-    expect_receipts(rt, &ran.tracks[0], &late);
+    expect_receipts(rt, history, &ran.tracks[0], &late);
     let other = [receipt(4, Reply::Ended), receipt(5, granted(3, S2, 2))];
-    expect_receipts(rt, &ran.tracks[1], &other);
+    expect_receipts(rt, history, &ran.tracks[1], &other);
     expect_made(rt, ran, &[(S1, 4), (S2, 2)]);
 }
 
 fn receipt(place: u64, reply: Reply) -> Receipt {
     Receipt { place, reply }
-}
-
-/// Expects these receipts of a script that nothing stopped.
-fn expect_receipts(rt: &impl Abort, track: &Track, wanted: &[Receipt]) {
-    expect_track(rt, track, None, wanted.len());
-    assert!(rt; track.receipts.as_slice() == wanted);
 }

@@ -1,9 +1,11 @@
 //! A script whose history is full.
 
-use super::{Ran, S1, close, expect_made, expect_track, run_rows};
-use lrc_book::{Command, Reply};
+use super::{
+    ONE_BY_ONE, Ran, S1, batch, close, expect_batches, expect_made, expect_track, run_rows,
+};
+use lrc_book::{Command, Record, Reply};
 use lrc_code::Fault;
-use lrc_sessions::{OpenGate, Receipt, Stop};
+use lrc_sessions::Stop;
 use std::process::Abort;
 use std::test::Fail;
 
@@ -11,7 +13,7 @@ use std::test::Fail;
 #[test]
 fn a_full_history_stops_a_script(rt: HostRuntime) -> Result<(), Fail> {
     let leases = [Command::Next; 4];
-    let ran = run_rows(&rt, rt.alloc(), 3, &[leases.as_slice()], &OpenGate)?;
+    let ran = run_rows(&rt, rt.alloc(), 3, &[leases.as_slice()], &ONE_BY_ONE)?;
     expect_stopped(&rt, &ran);
     close(ran);
     Ok(())
@@ -23,14 +25,14 @@ fn expect_stopped(rt: &impl Abort, ran: &Ran) {
     assert_eq!(rt; ran.front, 3);
     let full = Some(Stop::Fault(Fault::HistoryFull));
     expect_track(rt, &ran.tracks[0], full, 3);
-    let wanted = [idle(1), idle(2), idle(3)];
-    assert!(rt; ran.tracks[0].receipts.as_slice() == wanted.as_slice());
+    expect_batches(rt, &ran.tracks[0], &[batch(1, 1), batch(2, 1), batch(3, 1)]);
+    expect_idle(rt, ran.closing.book.history());
     expect_made(rt, ran, &[(S1, 3)]);
 }
 
-fn idle(place: u64) -> Receipt {
-    Receipt {
-        place,
-        reply: Reply::Idle,
+/// Expects that each call found no work.
+fn expect_idle(rt: &impl Abort, history: &[Record]) {
+    for record in history {
+        assert!(rt; record.reply() == Reply::Idle);
     }
 }

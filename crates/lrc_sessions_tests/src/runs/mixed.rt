@@ -1,10 +1,10 @@
 //! Eight sessions at once, whose history is replayed by one thread.
 
 use super::replay::replay;
-use super::{LIMIT, Ran, close, expect_track, run};
+use super::{Batched, LIMIT, Ran, close, entry_at, expect_track, run};
 use lrc_book::{Command, Record};
 use lrc_code::{Fragment, NodeNo, SessionNo, StripeNo, UpgradeNo};
-use lrc_sessions::{OpenGate, Receipt, Track};
+use lrc_sessions::{Batch, Track};
 use std::alloc::Global;
 use std::process::Abort;
 use std::sync::Wait;
@@ -17,18 +17,30 @@ const CALLS: usize = 40;
 #[test]
 fn sixteen_runs_of_eight_scripts_are_those_of_one_thread(rt: HostRuntime) -> Result<(), Fail> {
     for seed in 0..16 {
-        run_mixed(&rt, rt.alloc(), seed)?;
+        run_mixed(&rt, rt.alloc(), seed, 1)?;
     }
     Ok(())
 }
 
+#[test]
+fn four_runs_of_eight_scripts_in_batches_are_those_of_one_thread(
+    rt: HostRuntime,
+) -> Result<(), Fail> {
+    for seed in 16..20 {
+        run_mixed(&rt, rt.alloc(), seed, 7)?;
+    }
+    Ok(())
+}
+
+/// Runs the scripts of a seed, with at most `most` calls in each batch.
 fn run_mixed<R: Threads + Wait + Abort + Sync>(
     rt: &R,
     alloc: Global,
     seed: u64,
+    most: usize,
 ) -> Result<(), Fail> {
     let scripts = mixed_scripts(alloc, seed)?;
-    let ran = run(rt, alloc, LIMIT, scripts.as_slice(), &OpenGate)?;
+    let ran = run(rt, alloc, LIMIT, scripts.as_slice(), &Batched(most))?;
     expect_tracks(rt, &ran, scripts.as_slice());
     let replayed = replay(rt, alloc, &ran.closing.book);
     close(ran);
@@ -105,7 +117,7 @@ fn command_on_nodes(kind: u64, number: u64) -> Command {
     }
 }
 
-/// Expects the receipts of its whole script for each track, and counts that agree.
+/// Expects that each track has its whole script, and counts that agree.
 fn expect_tracks(rt: &impl Abort, ran: &Ran, scripts: &[Vec<Command>]) {
     let made = ran.closing.made.as_slice();
     let history = ran.closing.book.history();
@@ -127,30 +139,43 @@ fn expect_script(
     track: &Track,
 ) {
     assert_eq!(rt; made.1, CALLS as u64);
-    expect_track(rt, track, None, script.len());
-    expect_in_order(rt, history, made.0, script, track.receipts.as_slice());
+    expect_track(rt, track, None, CALLS as u64);
+    expect_in_order(rt, history, made.0, script, track.batches.as_slice());
 }
 
-/// Expects the calls of a script in order as the entries of its session, and their places and replies as its receipts.
+/// Expects the calls of a script in order as the entries of its session's batches, which rise.
 fn expect_in_order(
     rt: &impl Abort,
     history: &[Record],
     session: SessionNo,
     script: &[Command],
-    receipts: &[Receipt],
+    batches: &[Batch],
 ) {
     let mut made = 0;
-    for (i, record) in history.iter().enumerate() {
-        let entry = record.entry();
-        if entry.session == session {
-            assert!(rt; made < script.len() && made < receipts.len());
-            let wanted = Receipt {
-                place: i as u64 + 1,
-                reply: entry.reply,
-            };
-            assert!(rt; entry.command == script[made] && receipts[made] == wanted);
+    let mut last = 0;
+    for batch in batches {
+        for behind in 0..batch.count {
+            let place = batch.first.saturating_add(behind);
+            assert!(rt; place > last && made < script.len());
+            expect_call(rt, history, place, session, script[made]);
+            last = place;
             made += 1;
         }
     }
     assert_eq!(rt; made, script.len());
+}
+
+/// Expects a command of a session at a place of the history.
+fn expect_call(
+    rt: &impl Abort,
+    history: &[Record],
+    place: u64,
+    session: SessionNo,
+    command: Command,
+) {
+    let Some(record) = entry_at(history, place) else {
+        panic!(rt; "an entry at the place")
+    };
+    let entry = record.entry();
+    assert!(rt; entry.session == session && entry.command == command);
 }

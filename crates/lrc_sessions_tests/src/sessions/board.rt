@@ -1,10 +1,10 @@
-//! A keeper over twenty-one nodes: what viewers see of three calls.
+//! A keeper over twenty-one nodes: what viewers see of a batch and a call.
 
 ghost use Rattle.std.specs.Prelude.{◌≡◌, [], IfOk};
 ghost use Rattle.lrc_rules.specs.Histories.{first_world};
 
 use super::{LAST, ONE, nodes};
-use lrc_board::{Keeper, NewLog, ViewNaming, Viewer};
+use lrc_board::{Batch, Keeper, NewLog, ViewNaming, Viewer};
 use lrc_book::{Book, Command, Level};
 use lrc_code::{NodeNo, SessionNo, StripeNo};
 use std::alloc::Global;
@@ -26,7 +26,7 @@ fn a_viewer_sees_what_it_was_shown(rt: HostRuntime) -> Result<(), Fail> {
     Ok(())
 }
 
-/// Of two viewers one is shown three calls, and the other nothing.
+/// Of two viewers one is shown a batch of two calls and one more call, and the other nothing.
 fn watch<N: ViewNaming, R: Wait + Abort>(rt: &R, alloc: Global, book: Book, log: NewLog)
     requires book { (book.history ≡ []) × (book.nodes ≡ N.topology) × (book.limit ≡ N.limit) × (book.base ≡ first_world) × (book.before ≡ 0) }
     requires log { (log.prefix.book ≡ N.log) × (log.permit.nib.key ≡ N.start) }
@@ -36,8 +36,8 @@ fn watch<N: ViewNaming, R: Wait + Abort>(rt: &R, alloc: Global, book: Book, log:
     };
     let mut viewer = take(rt, &mut viewers);
     let other = take(rt, &mut viewers);
-    apply(rt, &mut keeper, Command::Place(ONE), 1);
-    apply(rt, &mut keeper, Command::Fail(NodeNo { value: 3 }), 2);
+    let batch = [Command::Place(ONE), Command::Fail(NodeNo { value: 3 })];
+    apply_both(rt, &mut keeper, &batch);
     apply(rt, &mut keeper, Command::Place(LAST), 3);
     show(&mut keeper, &mut viewer);
     expect_count(rt, &viewer, 3);
@@ -75,6 +75,17 @@ fn take<N: ViewNaming>(rt: &impl Abort, viewers: &mut Vec<Viewer<N>>) -> Viewer<
         panic!(rt; "one more viewer")
     };
     viewer
+}
+
+/// Makes the first two calls, by session 1, as one batch.
+fn apply_both<N: ViewNaming, R: Wait + Abort>(
+    rt: &R,
+    keeper: &mut Keeper<N>,
+    batch: &[Command; 2],
+) {
+    let (made, fault) = keeper.apply_all(rt, SessionNo { value: 1 }, batch);
+    assert_eq!(rt; made, Batch { first: 1, count: 2 });
+    assert!(rt; fault.is_none(), "room for two calls");
 }
 
 /// Makes a call by session 1, and expects this place in the history.

@@ -72,7 +72,7 @@ fn expect_full<N: Naming, R: Wait + Abort>(rt: &R, manager: &Manager<N>, session
 }
 
 /// Plays what two sessions do with this limit of the history, and expects that the first session made all its entries.
-fn expect_limited<R: Threads + Wait + Abort + Sync>(
+pub(super) fn expect_limited<R: Threads + Wait + Abort + Sync>(
     rt: &R,
     alloc: Global,
     pair: Pair,

@@ -1,5 +1,6 @@
 //! What sessions see of each other's calls, without the lock.
 
+use super::batches::expect_batch;
 use super::scenes::{Pair, expect_pair};
 use super::{LAST, ONE, call, expect_fronts, meet};
 use lrc_book::{Command, Level};
@@ -14,6 +15,9 @@ use std::thread::{Threads, join};
 /// The calls of one session while another looks.
 const CALLS: u64 = 50;
 
+/// The calls of a batch.
+const FIVE: [Command; 5] = [Command::Next; 5];
+
 /// The most looks of the other.
 const LOOKS: u32 = 100_000_000;
 
@@ -22,14 +26,21 @@ fn a_session_sees_the_calls_of_another(rt: HostRuntime) -> Result<(), Fail> {
     expect_pair(&rt, rt.alloc(), Pair::Watch, (CALLS, 0))
 }
 
-/// One session makes calls, and another looks on a thread of its own until it has seen them. Then they meet.
+#[test]
+fn a_session_sees_whole_batches_of_another(rt: HostRuntime) -> Result<(), Fail> {
+    expect_pair(&rt, rt.alloc(), Pair::WatchBatches, (CALLS, 0))
+}
+
+/// One session makes calls, `many` at once, and another looks on a thread of its own until it has seen them. Then they
+/// meet.
 pub(super) fn watch<N: Naming + Send + Sync, R: Threads + Wait + Abort + Sync>(
     rt: &R,
     manager: &Manager<N>,
     first: &mut Session<N>,
     second: &mut Session<N>,
+    many: u64,
 ) {
-    call_and_look(rt, manager, first, second);
+    call_and_look(rt, manager, first, second, many);
     expect_fronts(rt, first, second, (CALLS, CALLS));
     meet(rt, manager, first, second, CALLS);
 }
@@ -40,27 +51,41 @@ fn call_and_look<N: Naming + Send + Sync, R: Threads + Wait + Abort + Sync>(
     manager: &Manager<N>,
     first: &mut Session<N>,
     second: &mut Session<N>,
+    many: u64,
 ) {
     join(
         rt,
-        || call_again(rt, manager, first),
-        || look_until_seen(rt, second),
+        || call_again(rt, manager, first, many),
+        || look_until_seen(rt, second, many),
     );
 }
 
-/// Makes all calls.
-fn call_again<N: Naming, R: Wait + Abort>(rt: &R, manager: &Manager<N>, session: &mut Session<N>) {
-    for _ in 0..CALLS {
-        call(rt, manager, session, Command::Next);
+/// Makes all calls: each alone, or five in a batch.
+fn call_again<N: Naming, R: Wait + Abort>(
+    rt: &R,
+    manager: &Manager<N>,
+    session: &mut Session<N>,
+    many: u64,
+) {
+    if many == 1 {
+        for _ in 0..CALLS {
+            call(rt, manager, session, Command::Next);
+        }
+        return;
+    }
+    for before in 0..CALLS / 5 {
+        expect_batch(rt, manager, session, &FIVE, (before * 5 + 1, 5, None));
     }
 }
 
-/// Looks until all calls are seen. Each look has a view, and the number of entries that are seen never falls.
-fn look_until_seen<N: Naming>(rt: &impl Abort, session: &mut Session<N>) {
-    let mut front = 0;
+/// Looks until all calls are seen. Each look has a view, which shows calls that were made at once together, and the number of
+/// entries that are seen never falls.
+fn look_until_seen<N: Naming>(rt: &impl Abort, session: &mut Session<N>, many: u64) {
+    let mut front: u64 = 0;
     for _ in 0..LOOKS {
         let (seen, level) = level_of(rt, session, ONE);
         assert!(rt; seen >= front && level.is_none());
+        assert!(rt; seen.checked_rem(many) == Some(0));
         front = seen;
         if front == CALLS {
             return;
@@ -127,7 +152,7 @@ fn expect_load<N: Naming>(
 }
 
 /// Returns the number of entries that a look at a stripe's level sees, and the level.
-fn level_of<N: Naming>(
+pub(super) fn level_of<N: Naming>(
     rt: &impl Abort,
     session: &mut Session<N>,
     stripe: StripeNo,

@@ -3,7 +3,7 @@
 ghost use Rattle.std.specs.Prelude.{◌≡◌};
 
 use super::{
-    S1, S2, close, expect_made, finish, leases, limits, looks, managers, parts, put, take,
+    S1, S2, batches, close, expect_made, finish, leases, limits, looks, managers, parts, put, take,
 };
 use lrc_code::SessionNo;
 use lrc_sessions::{Closing, Manager, Naming, Parts, Session};
@@ -32,12 +32,18 @@ pub(super) enum Scene {
 pub(super) enum Pair {
     /// One makes calls, and the other looks on a thread of its own until it has seen them.
     Watch,
+    /// The same with batches.
+    WatchBatches,
     /// Each places a stripe, and both look.
     LookAround,
     /// One makes many calls before the other looks.
     LookFromBehind,
     /// One makes the only call that the history has room for.
     MeetFullHistory,
+    /// One makes batches of no call, of one, and of as many as a batch can have.
+    MakeBatches,
+    /// One makes a batch that the history has no room for.
+    FillHistory,
 }
 
 impl Pair {
@@ -50,10 +56,13 @@ impl Pair {
         second: &mut Session<N>,
     ) {
         match self {
-            Pair::Watch => looks::watch(rt, manager, first, second),
+            Pair::Watch => looks::watch(rt, manager, first, second, 1),
             Pair::LookAround => looks::look_around(rt, alloc, manager, first, second),
             Pair::LookFromBehind => looks::look_from_behind(rt, manager, first, second),
             Pair::MeetFullHistory => limits::meet_a_full_history(rt, manager, first, second),
+            Pair::MakeBatches => batches::make_batches(rt, manager, first, second),
+            Pair::WatchBatches => looks::watch(rt, manager, first, second, 5),
+            Pair::FillHistory => batches::fill_the_history(rt, manager, first, second),
         }
     }
 }

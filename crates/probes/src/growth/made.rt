@@ -1,10 +1,9 @@
-//! Calls that make a value, or reserve memory in one.
+//! Calls that make a value.
 
-use crate::growth::trial::{Host, ONE, begin, end};
+use crate::growth::trial::{Host, begin, end};
 use crate::growth::{keepers, managers};
 use crate::stop::Stop;
 use lrc_book::Book;
-use lrc_code::StripeNo;
 use lrc_image_text::read_image;
 use lrc_samples::twenty_nodes;
 use lrc_script::parse_script;
@@ -25,7 +24,6 @@ pub(crate) fn try_call(rt: &impl Host, call: &str, text: &str) -> Result<(), Sto
 /// Makes the value, and returns whether an allocation failed.
 fn try_once(rt: &impl Host, call: &str, text: &str) -> Result<bool, Stop> {
     match call {
-        "Stripes::reserve" => make_room(rt),
         "Book::begin" => begin_book(rt, text),
         "Keeper::open" => keepers::open_once(rt),
         "Manager::open" => managers::open_once(rt),
@@ -80,35 +78,4 @@ fn begin_book(rt: &impl Host, text: &str) -> Result<bool, Stop> {
     };
     begin(rt);
     end(rt, &Book::begin(alloc, nodes, image).and(Ok(())))
-}
-
-/// Reserves memory for stripes beside one without homes, and returns whether an allocation failed.
-fn make_room(rt: &impl Host) -> Result<bool, Stop> {
-    let mut stripes = new_stripes(rt.alloc())?;
-    let is_refused = make_room_in(rt, &mut stripes);
-    drop(stripes);
-    is_refused
-}
-
-fn new_stripes(alloc: Global) -> Result<Stripes, Stop> {
-    let nodes = twenty_nodes(alloc)?;
-    let made = Stripes::new(alloc, &nodes);
-    drop(nodes);
-    Ok(made?)
-}
-
-fn make_room_in(rt: &impl Host, stripes: &mut Stripes) -> Result<bool, Stop> {
-    stripes.reserve(2)?;
-    add(stripes, ONE);
-    println!(rt; "{:?} {:?}", stripes.level(ONE), stripes.homes(ONE))?;
-    begin(rt);
-    let is_refused = end(rt, &stripes.reserve(4000))?;
-    println!(rt; "{:?} {:?}", stripes.level(ONE), stripes.homes(ONE))?;
-    Ok(is_refused)
-}
-
-fn add(stripes: &mut Stripes, stripe: StripeNo) {
-    if !stripes.contains(stripe) && stripes.spare() > 0 {
-        stripes.add(stripe);
-    }
 }

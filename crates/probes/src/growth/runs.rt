@@ -108,14 +108,15 @@ fn tell_run<N: Naming>(
     Ok(made)
 }
 
-/// Prints the only track of a run, and returns the number of its receipts.
+/// Prints the only track of a run, and returns the number of its calls.
 fn tell_tracks(rt: &impl Host, tracks: &[Track]) -> Made {
     end(rt, &Ok::<(), Fault>(()))?;
     let track = tracks.first().ok_or(Stop::Failed)?;
-    let receipts = track.receipts.as_slice();
-    for receipt in receipts {
-        println!(rt; "{receipt:?}")?;
+    let mut made: u64 = 0;
+    for batch in track.batches.as_slice() {
+        println!(rt; "{batch:?}")?;
+        made = made.saturating_add(batch.count);
     }
     println!(rt; "stopped {:?}", track.stopped)?;
-    Ok(receipts.len())
+    Ok(made as usize)
 }

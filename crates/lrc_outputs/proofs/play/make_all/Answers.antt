@@ -3,7 +3,8 @@ use Rattle.lrc_topology.specs.declared.NodeInfo.{NodeInfo}
 use Rattle.lrc_rules.specs.declared.entry.Entry.{Entry}
 use Rattle.lrc_rules.specs.Histories.{World, outcome_in, world_from, IsLegalFrom}
 use Rattle.lrc_book.proofs.WorldLemmas.{legal_push}
-use Rattle.lrc_outputs.proofs.PlayLemmas.{none_made, one_more_made, all_made}
+use Rattle.lrc_board.proofs.BatchLemmas.{none_made, one_more_made}
+use Rattle.lrc_outputs.proofs.PlayLemmas.{all_made}
 use Rattle.lrc_outputs.proofs.play.make_all.Goals as goal
 
 pub loop-command-init : goal.loop-command-init

@@ -1,6 +1,6 @@
 use Rattle.std.proofs.Common.{◌≡◌, take}
 use Rattle.lrc_rules.specs.Histories.{IsLegalFrom}
-use Rattle.lrc_outputs.specs.Plays.{AreMadeBehind}
+use Rattle.lrc_board.specs.Batches.{AreMadeBehind}
 use Rattle.lrc_outputs.proofs.play.make_all.Given as goal
 
 abbrev pub invariant-loop-command : goal.invariant-loop-command

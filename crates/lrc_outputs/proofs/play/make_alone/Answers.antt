@@ -1,7 +1,7 @@
 use Rattle.std.proofs.Common.{◌≡◌, List, sym, subst}
 use Rattle.lrc_rules.specs.declared.entry.Entry.{Entry}
 use Rattle.lrc_rules.specs.Histories.{IsLegalFrom}
-use Rattle.lrc_outputs.specs.Plays.{AreMadeBehind}
+use Rattle.lrc_board.specs.Batches.{AreMadeBehind}
 use Rattle.lrc_outputs.proofs.PlayLemmas.{alone_made, alone_only}
 use Rattle.lrc_outputs.proofs.play.make_alone.Goals as goal
 

@@ -3,7 +3,7 @@ use Rattle.std.proofs.lemmas.List.{take_all}
 use Rattle.lrc_topology.specs.declared.NodeInfo.{NodeInfo}
 use Rattle.lrc_rules.specs.Histories.{World, IsLegalFrom}
 use Rattle.lrc_text.specs.Texts.{lines_from, script_text_behind}
-use Rattle.lrc_outputs.specs.Plays.{AreMadeBehind}
+use Rattle.lrc_board.specs.Batches.{AreMadeBehind}
 use Rattle.lrc_outputs.proofs.SessionLemmas.{one_made, told_more}
 use Rattle.lrc_outputs.proofs.PlayLemmas.{made_more, alone_more, long, begun, tail_told}
 use Rattle.lrc_outputs.proofs.play.play_alone.Goals as goal

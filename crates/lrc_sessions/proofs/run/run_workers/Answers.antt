@@ -1,4 +1,4 @@
-use Rattle.std.proofs.Common.{◌≡◌, ◌<◌, ◌≤◌, List, [], length, vec_capacity, sym, subst, arith, rules, slice_index_or}
+use Rattle.std.proofs.Common.{◌≡◌, ◌<◌, ◌≤◌, ◌*◌, List, [], length, vec_capacity, sym, subst, arith, rules, slice_index_or}
 use Rattle.lrc_sessions.specs.declared.worker.Worker.{Worker}
 use Rattle.lrc_sessions.proofs.RunLemmas.{written_back}
 use Rattle.lrc_sessions.proofs.run.run_workers.Goals as goal
@@ -8,10 +8,13 @@ for_each_mut-requires-clause-accepts g c κs within i p low is =
     let same = sym c.as_mut_slice.ensures.value in
     let below : i < length c.args.scripts.now = omega arith in (
       below,
-      subst (λ (w : Worker g.row.N.Denot). w.receipts.items ≡ []) (sym is)
-          (subst (λ (ws : List (Worker g.row.N.Denot)). (slice_index_or ws i p.now).receipts.items ≡ []) same (c.requires.empty i p.now below)),
-      λ s. subst (λ (w : Worker g.row.N.Denot). length (slice_index_or c.args.scripts.now i s).items ≤ vec_capacity w.receipts) (sym is)
-          (subst (λ (ws : List (Worker g.row.N.Denot)). length (slice_index_or c.args.scripts.now i s).items ≤ vec_capacity (slice_index_or ws i p.now).receipts) same (c.requires.room i p.now s below)),
+      subst (λ (w : Worker g.row.N.Denot). w.batches.items ≡ []) (sym is)
+          (subst (λ (ws : List (Worker g.row.N.Denot)). (slice_index_or ws i p.now).batches.items ≡ []) same (c.requires.empty i p.now below)),
+      λ s. subst (λ (w : Worker g.row.N.Denot). length (slice_index_or c.args.scripts.now i s).items ≤ vec_capacity w.batches * c.args.most) (sym is)
+          (subst (λ (ws : List (Worker g.row.N.Denot)). length (slice_index_or c.args.scripts.now i s).items ≤ vec_capacity (slice_index_or ws i p.now).batches * c.args.most) same (c.requires.room i p.now s below)),
+      c.requires.most.0,
+      c.requires.most.1,
+      c.requires.most.2,
     )
 
 pub returns-clause-run : goal.returns-clause-run

@@ -10,8 +10,8 @@ invariant-loop-worker g l = record {
   finite : (goal.iterator-loop-worker g).is_finite l.worker-iterator;
   sessions_is : l.sessions.items ++ map (λ (w : Worker g.row.N.Denot). w.session) (into_iter_items l.worker-iterator)
       ≡ map (λ (w : Worker g.row.N.Denot). w.session) l.fn.workers.items;
-  tracks_is : l.tracks.items ++ map (λ (w : Worker g.row.N.Denot). record { receipts = w.receipts.items; stopped = w.stopped }) (into_iter_items l.worker-iterator)
-      ≡ map (λ (w : Worker g.row.N.Denot). record { receipts = w.receipts.items; stopped = w.stopped }) l.fn.workers.items;
+  tracks_is : l.tracks.items ++ map (λ (w : Worker g.row.N.Denot). record { batches = w.batches.items; stopped = w.stopped }) (into_iter_items l.worker-iterator)
+      ≡ map (λ (w : Worker g.row.N.Denot). record { batches = w.batches.items; stopped = w.stopped }) l.fn.workers.items;
   room_for_sessions : length l.sessions.items + length (into_iter_items l.worker-iterator) ≤ vec_capacity l.sessions;
   room_for_tracks : length l.tracks.items + length (into_iter_items l.worker-iterator) ≤ vec_capacity l.tracks;
 }

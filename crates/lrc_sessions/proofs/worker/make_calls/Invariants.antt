@@ -1,16 +1,17 @@
-use Rattle.std.proofs.Common.{◌≡◌, ◌+◌, ◌≤◌, length, vec_capacity}
-use mathlib.Core.List.{IsPrefix}
-use Rattle.lrc_sessions.specs.Runs.{AreStanding, Passes, HavePassed}
+use Rattle.std.proofs.Common.{◌≡◌, ◌*◌, ◌<◌, ◌≤◌, length, drop, vec_capacity}
+use Rattle.std.specs.Slice.Iter.{chunks_rest, chunks_size}
+use Rattle.lrc_sessions.specs.Runs.{Passes}
+use Rattle.lrc_sessions.proofs.ScriptLemmas.{HasRun}
 use Rattle.lrc_sessions.proofs.worker.make_calls.Given as goal
 
-abbrev pub invariant-loop-command : goal.invariant-loop-command
-invariant-loop-command g l = record {
-  count : l.n ≡ l.command-index;
-  number_is : l.session.number ≡ l.initial.session.number;
-  made_is : l.session.made ≡ l.initial.session.made + length l.receipts.items;
-  len_is : length l.receipts.items ≡ l.command-index;
-  room : length l.script ≤ vec_capacity l.receipts;
-  later : IsPrefix l.initial.session.seen l.session.seen;
-  stand : AreStanding l.initial.session.number (length l.initial.session.seen) l.script l.receipts.items l.session.seen;
-  passed : HavePassed (Passes g.G.Gate.lets g.G.Gate.tells) l.initial.session.number (length l.receipts.items);
+-- all batches so far are full, if commands are left
+abbrev pub invariant-loop-calls : goal.invariant-loop-calls
+invariant-loop-calls g l = record {
+  can_next : (goal.iterator-loop-calls g).can_next l.calls-iterator;
+  finite : (goal.iterator-loop-calls g).is_finite l.calls-iterator;
+  size : chunks_size l.calls-iterator ≡ l.most;
+  left : drop l.done l.script ≡ chunks_rest l.calls-iterator;
+  full : 0 < length (chunks_rest l.calls-iterator) → l.done ≡ length l.batches.items * l.most;
+  room : length l.script ≤ vec_capacity l.batches * l.most;
+  run : HasRun g.G.Gate.most (Passes g.G.Gate.lets g.G.Gate.tells) l.script l.initial.session l.session l.batches.items l.done;
 }

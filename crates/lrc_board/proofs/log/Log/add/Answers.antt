@@ -1,4 +1,4 @@
-use Rattle.std.proofs.Common.{List, ap, sym, ◌∙◌, ◌++◌, ◌∷◌, []}
+use Rattle.std.proofs.Common.{List, ap, sym, ◌∙◌, ◌++◌}
 use Rattle.lrc_rules.specs.declared.entry.Entry.{Entry}
 use Rattle.lrc_board.proofs.WrittenLemmas.{append_moves, asked_added}
 use Rattle.lrc_board.proofs.log.Log.add.Goals as goal
@@ -22,7 +22,7 @@ invariant_of-self g c =
     let i = c.self.invariant in
     let then = c.compare_exchange.ensures.7 in
     let done = asked_added g.N.ViewNaming.start log.permit.nib.key log.prefix.log then.0 c.compare_exchange.new.seen.log c.plain-offer.result.ask
-    c.args.entry c.new_permit.result.nib.key i.4 then.1 then.2 c.plain-offer.ensures.1 then.3 in
+    c.args.entries.now c.new_permit.result.nib.key i.4 then.1 then.2 c.plain-offer.ensures.1 then.3 in
     (c.compare_exchange.ensures.0 ∙ i.0, i.1, c.new_permit.ensures.0 ∙ i.0, c.new_permit.ensures.1, done.0)
 
 pub returns : goal.returns
@@ -31,5 +31,5 @@ returns g c =
     let i = c.self.invariant in
     let then = c.compare_exchange.ensures.7 in
     let done = asked_added g.N.ViewNaming.start log.permit.nib.key log.prefix.log then.0 c.compare_exchange.new.seen.log c.plain-offer.result.ask
-    c.args.entry c.new_permit.result.nib.key i.4 then.1 then.2 c.plain-offer.ensures.1 then.3 in
-    done.1 ∙ ap (λ (l : List Entry). l ++ c.args.entry ∷ []) c.self.view_is
+    c.args.entries.now c.new_permit.result.nib.key i.4 then.1 then.2 c.plain-offer.ensures.1 then.3 in
+    done.1 ∙ ap (λ (l : List Entry). l ++ c.args.entries.now) c.self.view_is

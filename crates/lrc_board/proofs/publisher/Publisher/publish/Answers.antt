@@ -21,6 +21,6 @@ show-writer-requires-clause-next g c =
     let boards : AreBoards n.log n.start n.topology c.self.inside.last desk.shown.value desk.spare.value = search rules in
     let before : c.args.self.now ≡ published n.start desk.shown.value = search rules in
     let after = state_after n.topology (written n.start c.args.prefix.now.log) in
-    let stay = subst (λ (h : List Entry). OthersStay n.topology c.args.changed (state_after n.topology h) after) before c.requires.changed in
-    board-renewed n.log n.start n.topology c.self.inside.last c.args.changed desk.shown.value desk.spare.value c.args.book.now c.args.count
+    let stay = subst (λ (h : List Entry). OthersStay n.topology c.args.changes.now (state_after n.topology h) after) before c.requires.changes in
+    board-renewed n.log n.start n.topology c.self.inside.last c.args.changes.now desk.shown.value desk.spare.value c.args.book.now c.args.count
     c.args.prefix.now.log boards c.requires.book.0 c.requires.book.1 c.requires.book.2 c.requires.count c.requires.legal stay

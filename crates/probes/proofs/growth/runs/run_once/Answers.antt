@@ -10,4 +10,4 @@ pub returns-in-Ok-clause-all : goal.returns-in-Ok-clause-all
 returns-in-Ok-clause-all g c count all =
     let ran = c.run_sessions-back in
     let long = c.requires.one ∙ sym (ap length c.as_slice.ensures.value ∙ c.in-Ok.ensures) in
-    all_after count g.N.ViewNaming.limit ⊥ passes c.as_slice.result.now c.args.sessions ran.result.0 ran.result.1 all long ran.ensures.ok ran.ensures.err
+    all_after count g.N.ViewNaming.limit 256 ⊥ passes c.as_slice.result.now c.args.sessions ran.result.0 ran.result.1 all long ran.ensures.ok ran.ensures.err

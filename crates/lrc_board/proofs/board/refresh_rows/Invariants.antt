@@ -1,0 +1,11 @@
+use Rattle.std.proofs.Common.{◌≡◌, length, drop}
+use Rattle.lrc_book.specs.Books.{state_of}
+use Rattle.lrc_board.specs.Refreshed.{rows_refreshed}
+use Rattle.lrc_board.proofs.board.refresh_rows.Given as goal
+
+-- the changes so far and those to come are all
+abbrev pub invariant-loop-changed : goal.invariant-loop-changed
+invariant-loop-changed l = record {
+  long : length l.rows ≡ 4096;
+  put : rows_refreshed (state_of l.book) (drop l.changed-index l.changes) l.rows ≡ rows_refreshed (state_of l.book) l.changes l.initial.rows;
+}
