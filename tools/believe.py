@@ -29,7 +29,7 @@ WORD = re.compile(r"(?<![\w.'-])([A-Za-z_][\w'-]*)(?:\.([A-Za-z_][\w'-]*))?")
 WHOLE = {"lrc_sessions", "lrc_forecast", "lrc_embed"}  # the crates of which each public call is claimed
 CALLS = {("lrc_tool", name) for name in ("run", "check", "go_on", "ask", "recover", "recipe", "matrix")}
 # What docs/PROMISES.md names beside clauses: what a private type and its body owe, and what a session has seen.
-BESIDES = {("lrc_sessions", "Locked", "IsLocked"), ("lrc_sessions", "Locked", "IsMade"), ("lrc_board", "Lines", "written")}
+BESIDES = {("lrc_sessions", "Locked", "IsLocked"), ("lrc_sessions", "Locked", "AreMadeBy"), ("lrc_board", "Lines", "written")}
 
 Module = namedtuple("Module", "definitions internal")  # what each definition names directly; which of them are internal
 Clause = namedtuple("Clause", "crate item name is_law reached")  # what a public item of a crate names directly

@@ -98,6 +98,12 @@ def receipt(place, reply):
     return f"Receipt {{ place: {place}, reply: {reply} }}"
 
 
+def ran(first, count, stopped="stopped None"):
+    """What is printed of a run that made one batch, if it made a call."""
+    batch = f"Batch {{ first: {first}, count: {count} }}\n" if count else ""
+    return f"Ok(())\n{batch}{stopped}\n"
+
+
 def script_cases(name, rows):
     """Yields the cases of each command of a script, after idle ones that leave the history no room."""
     for at, (_, reply) in enumerate(rows):
@@ -123,7 +129,6 @@ def cases():
     for call in ("SlotTable::new", "Stripes::new", "Book::new", "Book::with_limit", "Parts::new", "Parts::with_limit",
                  "Keeper::open", "Manager::open"):
         yield Case(call)
-    yield Case("Stripes::reserve", before="Some(Lost)", after=f"Ok(())\n{BEFORE}", faults=())
     yield Case("Book::risk", "", AT_RISK, "", f"Ok({RISK})\n{BEFORE}")
     yield Case("Viewer::risk", "", AT_RISK, "seen 0\n", f"Ok(({RISK}, 3))\n", "seen 3\n")
     yield Case("Viewer::level_of", "and load_of", AT_RISK, "seen 0\n", LOOKED, "seen 3\n", ())
@@ -132,9 +137,8 @@ def cases():
     yield Case("Manager::meet", "", AT_RISK, "fronts 3 0\n", "Ok(())\nfronts 3 3\n", made(3, 0), ())
     yield Case("Manager::finish", "", AT_RISK, "fronts 3 0\n", "Ok(())\nEntry", made(3, 0), ())
     for name, rows in SCRIPTS.items():
-        receipts = "".join(f"{receipt(place, reply)}\n" for place, (_, reply) in enumerate(rows, 1))
-        yield Case("run_sessions", name, "\n".join(command for command, _ in rows), "", f"Ok(())\n{receipts}stopped None\n",
-                   made(len(rows)), ("Err(OutOfMemory)", "stopped Some(Fault(OutOfMemory))"))
+        yield Case("run_sessions", name, "\n".join(command for command, _ in rows), "", ran(1, len(rows)), made(len(rows)),
+                   ("Err(OutOfMemory)", "stopped Some(Fault(OutOfMemory))"))
 
 
 def plain(text):
@@ -167,6 +171,9 @@ class Growth:
         before, _, after = ample.partition(MARKS)
         first, end = (text and text.replace(BEFORE, plain(before)) for text in (case.after, case.end))
         right = plain(after) == first if end is None else plain(after).startswith(first) and plain(after).endswith(end)
+        if case.call == "run_sessions":
+            replies = re.findall("^Entry .* reply: (.*) }$", plain(after), re.M)
+            right &= replies == [reply for _, reply in SCRIPTS[case.name]]
         wrong = [] if right and case.before in before else [f"with ample memory: {after[:500]!r}"]
         if not case.faults:
             wrong += [f"{requests} requests for memory, and not 0"] if requests else []
@@ -189,12 +196,12 @@ class Growth:
             yield from ((f"{before}{MARKS}{fault}\n{before}{MARKS}{after}", fault) for fault in case.faults)
             return
         # (a run that was stopped goes on after the calls that it made, and has then nothing left)
-        done, *receipts = after.partition("stopped None\n")[0].splitlines(keepends=True)
-        ended, (fault, stopped) = "stopped None\n" + after.partition(f"{MARKS}{done}stopped None\n")[2], case.faults
-        yield f"{MARKS}{fault}\nfront 0\n{MARKS}{done}{''.join(receipts)}{ended}", fault
-        for count in range(len(receipts)):
-            told, rest = "".join(receipts[:count]), "".join(receipts[count:])
-            yield f"{MARKS}{done}{told}{stopped}\nfront {count}\n{MARKS}{done}{rest}{ended}", stopped
+        count, (fault, stopped) = len(SCRIPTS[case.name]), case.faults
+        whole, nothing = ran(1, count), ran(1, 0)
+        ended = after.partition(f"{MARKS}{nothing}")[2]
+        yield f"{MARKS}{fault}\nfront 0\n{MARKS}{whole}{ended}", fault
+        for few in range(count):
+            yield (f"{MARKS}{ran(1, few, stopped)}front {few}\n{MARKS}{ran(few + 1, count - few)}{ended}", stopped)
 
 
 def main(words):
