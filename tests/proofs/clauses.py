@@ -6,12 +6,16 @@ import functools
 import hashlib
 import os
 import re
+from typing import NamedTuple
 
 from tests.harness import TOP
 
 TOKEN = re.compile(r"""//[^\n]*|b?"(?:\\.|[^"\\])*"|b?'(?:\\[^']+|[^'\\])'|[A-Za-z_]\w*|\d\w*|\s+|.""", re.S)
 CLAUSE = re.compile(r"\b(?:ensures|requires)(?: \w+)?\Z|\bghost \w+ [:=]\Z")
 WORD = re.compile(r"[A-Za-z_][\w'-]*")
+IMPORT = re.compile(r"^[ \t]*(?:pub )?(?:ghost )?use (\w[^;{}\n]*)(\{[^}]*\})?", re.MULTILINE)
+NAMED = re.compile(r"([A-Za-z_][\w'-]*)(?: as ([\w'-]+))?")
+OF_FIELDS = re.compile(r" ghost (?:invariant|view) ")
 DEFINES = re.compile(r"(?:(?:abbrev|unfoldable|opaque|pub|data|record) )+(?!mod |use )([^\s:(){},]+)")
 
 
@@ -141,13 +145,21 @@ def public_items(tokens, around="", is_open=False):
         head, at = [], after
 
 
+class Item(NamedTuple):
+    """A public item or a definition: its name, its text, and the file in which it stands."""
+
+    name: str
+    text: str
+    path: str
+
+
 @functools.cache
 def sources(crate):
     """The public items of a crate's sources."""
     found = []
     for path in files_below(f"{TOP}/crates/{crate}/src", ".rt"):
         tokens = [it for it in TOKEN.findall(text_of(path)) if is_kept(it)]
-        found += public_items(without_attributes(tokens))
+        found += [Item(*it, path) for it in public_items(without_attributes(tokens))]
     return found
 
 
@@ -168,7 +180,7 @@ def definitions_in(path):
 def definitions(crate, is_whole=True):
     """The definitions of a crate's specs: all, or without those of files marked as internal, which no public clause reaches."""
     paths = files_below(f"{TOP}/crates/{crate}/specs", ".antt")
-    return [it for path in paths if is_whole or not text_of(path).startswith("-- Internal") for it in definitions_in(path)]
+    return [Item(*it, path) for path in paths if is_whole or not text_of(path).startswith("-- Internal") for it in definitions_in(path)]
 
 
 # Sums.
@@ -180,23 +192,58 @@ def sum_of(texts):
 
 def statements(crate):
     """What the clauses and the definitions of a crate say."""
-    return [f"{name} = {text}" for name, text in [*sources(crate), *definitions(crate)]]
+    return [f"{it.name} = {it.text}" for it in [*sources(crate), *definitions(crate)]]
+
+
+@functools.cache
+def known_of(crate):
+    """The definitions and types of a crate that others can name, by their names."""
+    known = {}
+    for it in [*sources(crate), *definitions(crate, is_whole=False)]:
+        # (what a type keeps of its private fields, and how its model is made of them, is a body to the crates above)
+        if " fn " not in it.text[: it.text.find("(")] and not OF_FIELDS.search(it.text):
+            known.setdefault(it.name, []).append(it)
+    return known
+
+
+@functools.cache
+def imports_of(path):
+    """What a word may stand for by the imports of a file: names, each with its crate."""
+    found = {}
+    for head, names in IMPORT.findall(text_of(path)):
+        crate, *words = WORD.findall(head.removeprefix("Rattle."))
+        if crate not in crates():
+            continue
+        whole, listed = {(crate, it) for it in words}, NAMED.findall(names)
+        for name, other in listed:
+            # (a variant is a part of its type)
+            found.setdefault(other or name, set()).update({(crate, name)}, whole if "TheVariants" in words else ())
+        for word in () if listed else words:
+            # (a module, or a type with its variants, by any word of its path or by another name)
+            found.setdefault(word, set()).update(whole)
+    return found
+
+
+def named_in(item, crate):
+    """The definitions and types that an item of a crate names, each with its crate: its own crate's, and those that its file imports."""
+    imported = imports_of(item.path)
+    for word in WORD.findall(item.text):
+        yield from ((crate, it) for it in known_of(crate).get(word, []))
+        for library, name in imported.get(word, ()):
+            # (what a library passes on may be of any below it)
+            owners = [library] if name in known_of(library) else crates_below(library)
+            yield from ((owner, it) for owner in owners for it in known_of(owner).get(name, []))
 
 
 def named_below(crate):
     """The definitions and types of the crates below that the statements name, and those that these name in turn."""
-    known = {}
-    for library in crates_below(crate):
-        for name, text in [*sources(library), *definitions(library, is_whole=False)]:
-            # (what a type keeps of its private fields is a body to the crates above)
-            if " fn " not in text[: text.find("(")] and " ghost invariant " not in text:
-                known.setdefault(name, []).append(f"{library} {name} = {text}")
-    found, new = set(), set(WORD.findall("\n".join(statements(crate))))
+    found, new = set(), [(crate, it) for it in [*sources(crate), *definitions(crate)]]
     while new:
-        texts = [text for word in new for text in known.pop(word, [])]
-        found.update(texts)
-        new = set(WORD.findall("\n".join(texts))) & known.keys()
-    return sorted(found)
+        owner, item = new.pop()
+        fresh = set(named_in(item, owner)) - found
+        found |= fresh
+        new += fresh
+    return sorted(f"{owner} {it.name} = {it.text}" for owner, it in found if owner != crate)
 
 
 def sums(crate):

@@ -14,8 +14,9 @@ alone, as is an edit outside a function.
 
 What the prover said is kept in crates/NAME/more-edits/verdicts. Its first lines are four sums:
   statements  the public clauses and types of the crate, and all that stands in its specs/
-  below       the definitions and types of the crates below that these name, and what those name in turn; not what only bodies
-              and proofs there reach: definitions of files marked as internal, and invariants of types
+  below       the definitions and types of the crates below that these name, and what those name in turn, as the imports of each
+              file tell; not what only bodies and proofs there reach: definitions of files marked as internal, invariants of
+              types, and how the model of a type is made of its fields
   sources     its folder src/, whole
   proofs      its folder proofs/, whole
 A line for each edit follows: its name, a sum of its text, the verdict, and the goal that was open or the file that was
