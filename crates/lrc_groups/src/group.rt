@@ -1,4 +1,4 @@
-ghost use Rattle.std.specs.Prelude.{◌≡◌, map, IfOk};
+ghost use Rattle.std.specs.Prelude.{◌≡◌, ◌++◌, map, IfOk, OnOk};
 ghost use Rattle.lrc_topology.specs.Nodes.{nodes_in};
 ghost use Rattle.lrc_groups.specs.Groups.{nodes_in_fault, has_fault, named_nodes, numbers_in, has_named, first_lacking};
 
@@ -21,52 +21,66 @@ pub fn numbers_in(
 {
     let mut numbers = Vec::new(alloc);
     for one in named {
-        let more = numbers_of(alloc, topology, *one)?;
-        numbers.extend_from_slice(more.as_slice())?;
+        push_numbers(&mut numbers, topology, *one)?;
     }
     Ok(numbers)
 }
 
-/// The number of a node that is named, or those of the nodes of a domain that is.
-fn numbers_of(alloc: Global, topology: &Topology, named: Named) -> Result<Vec<NodeNo>, AllocError>
-    ensures { IfOk result (λ numbers. numbers.items ≡ named_nodes topology.now named) }
+/// Adds the number of a node that is named, or those of the nodes of a domain that is.
+fn push_numbers(
+    numbers: &mut Vec<NodeNo>,
+    topology: &Topology,
+    named: Named,
+) -> Result<(), AllocError>
+    ensures { OnOk result (numbers.new.items ≡ numbers.old.items ++ named_nodes topology.now named) }
 {
     match named {
-        Named::Node(number) => [number].iter().copied().collect(alloc),
-        Named::Fault(domain) => numbers_in_fault(alloc, topology, domain),
-        Named::Upgrade(domain) => numbers_in_upgrade(alloc, topology, domain),
+        Named::Node(number) => numbers.extend_from_slice(&[number]),
+        Named::Fault(domain) => push_fault(numbers, topology, domain),
+        Named::Upgrade(domain) => push_upgrade(numbers, topology, domain),
     }
 }
 
-/// The numbers of the nodes of a fault domain, in file order.
-fn numbers_in_fault(
-    alloc: Global,
+/// Adds the numbers of the nodes of a fault domain, in file order.
+fn push_fault(
+    numbers: &mut Vec<NodeNo>,
     topology: &Topology,
-    domain: FaultNo,
-) -> Result<Vec<NodeNo>, AllocError>
-    ensures { IfOk result (λ numbers. numbers.items ≡ map (λ n. n.number) (nodes_in_fault topology.now domain)) }
+    fault: FaultNo,
+) -> Result<(), AllocError>
+    ensures { OnOk result (numbers.new.items ≡ numbers.old.items ++ map (λ n. n.number) (nodes_in_fault topology.now fault)) }
 {
-    let nodes = topology.nodes().filter(|node| node.fault == domain);
-    nodes.map(|node| node.number).collect(alloc)
+    for node in topology.nodes() {
+        if node.fault == fault {
+            numbers.push(node.number)?;
+        }
+    }
+    Ok(())
 }
 
-/// The numbers of the nodes of an upgrade domain, in file order.
-fn numbers_in_upgrade(
-    alloc: Global,
+/// Adds the numbers of the nodes of an upgrade domain, in file order.
+fn push_upgrade(
+    numbers: &mut Vec<NodeNo>,
     topology: &Topology,
-    domain: UpgradeNo,
-) -> Result<Vec<NodeNo>, AllocError>
-    ensures { IfOk result (λ numbers. numbers.items ≡ map (λ n. n.number) (nodes_in topology.now domain)) }
+    upgrade: UpgradeNo,
+) -> Result<(), AllocError>
+    ensures { OnOk result (numbers.new.items ≡ numbers.old.items ++ map (λ n. n.number) (nodes_in topology.now upgrade)) }
 {
-    let nodes = topology.nodes_in(domain);
-    nodes.iter().map(|node| node.number).collect(alloc)
+    for node in topology.nodes_in(upgrade) {
+        numbers.push(node.number)?;
+    }
+    Ok(())
 }
 
 /// The first that no node has: the number of no node, or a domain that no node is in.
 pub fn first_lacking(topology: &Topology, named: &[Named]) -> Option<Named>
     ensures { result ≡ first_lacking topology.now named.now }
 {
-    named.iter().copied().find(|one| !has_named(topology, *one))
+    for one in named {
+        if !has_named(topology, *one) {
+            return Some(*one);
+        }
+    }
+    None
 }
 
 /// Whether a node has the number, or is in the domain.
@@ -83,5 +97,10 @@ fn has_named(topology: &Topology, named: Named) -> bool
 fn has_fault(topology: &Topology, domain: FaultNo) -> bool
     ensures { result ≡ has_fault topology.now domain }
 {
-    topology.nodes().any(|node| node.fault == domain)
+    for node in topology.nodes() {
+        if node.fault == domain {
+            return true;
+        }
+    }
+    false
 }
