@@ -1,7 +1,9 @@
 //! Numbers at the start of a text of any length.
 
-ghost use Rattle.std.specs.Prelude.{◌≡◌, ◌≢◌, ℕ, ◌+◌, ◌^◌, ◌<◌, ◌≤◌, false, List, ◌∷◌, ◌++◌, length, decimal, IfSome, IfNone};
+ghost use Rattle.std.specs.Prelude.{◌≡◌, ◌≢◌, ℕ, ◌+◌, ◌^◌, ◌<◌, ◌≤◌, true, false, List, ◌∷◌, ◌++◌, length, take, get_or, decimal, IfSome, IfNone};
 ghost use Rattle.std.specs.Char.{is_ascii_digit};
+ghost use Rattle.std.specs.List.{list_all};
+ghost use Rattle.std.specs.Str.Parse.{digits_value};
 
 use lrc_front::{behind, number_in_front};
 
@@ -50,12 +52,7 @@ pub(crate) fn long_number_to_end(text: &[u8]) -> Option<(u64, &[u8])>
         return None;
     }
     let most = LONG_DIGITS.min(text.len() - 1);
-    let mut number: u128 = 0;
-    let mut at = 0;
-    while at < most && text[at].is_ascii_digit() {
-        number = number * 10 + u128::from(text[at] - b'0');
-        at += 1;
-    }
+    let (number, at) = digits_in_front(text, most);
     if at == 0
         || text[at] != b'\n'
         || (at > 1 && text[0] == b'0')
@@ -64,4 +61,22 @@ pub(crate) fn long_number_to_end(text: &[u8]) -> Option<(u64, &[u8])>
         return None;
     }
     Some((number as u64, &text[at + 1..]))
+}
+
+/// Reads at most `most` digits at the start of a text. Returns the number that they write, and how
+/// many they are.
+fn digits_in_front(text: &[u8], most: usize) -> (u128, usize)
+    requires { (most ≤ 20) × (most < length text.now) }
+    ensures within { result.1 ≤ most }
+    ensures digits { list_all is_ascii_digit (take result.1 text.now) ≡ true }
+    ensures value { result.0 ≡ digits_value 10 (take result.1 text.now) }
+    ensures stopped { result.1 < most → is_ascii_digit (get_or text.now result.1 0) ≡ false }
+{
+    let mut number = 0;
+    let mut at = 0;
+    while at < most && text[at].is_ascii_digit() {
+        number = number * 10 + u128::from(text[at] - b'0');
+        at += 1;
+    }
+    (number, at)
 }
