@@ -62,10 +62,7 @@ impl SlotTable {
         ensures err { IfErr result (λ e. e ≡ OutOfMemory) }
     {
         let index = NodeIndex::new(alloc, topology)?;
-        let mut rows = Vec::with_capacity(alloc, topology.len())?;
-        for node in topology.nodes() {
-            rows.push(NodeSlots::new(*node))?;
-        }
+        let rows = setup::rows(alloc, topology)?;
         Ok(SlotTable::of_rows(alloc, rows, index)?)
     }
 
@@ -81,14 +78,11 @@ impl SlotTable {
         ensures { IfOk result (λ t. t ≡ rows.items) }
     {
         let ordinals = setup::ordinals(alloc, &rows)?;
-        let mut order = setup::zeros(alloc, 512)?;
-        setup::set_order(&mut order, &ordinals);
+        let order = setup::order(alloc, &ordinals)?;
         let loads = setup::zeros(alloc, rows.len())?;
-        let faults = setup::faults(alloc, &rows)?;
-        let upgrades = setup::upgrades(alloc, &rows)?;
         let by_load = setup::sets_by(alloc, &loads, &ordinals)?;
-        let by_fault = setup::sets_by(alloc, &faults, &ordinals)?;
-        let by_upgrade = setup::sets_by(alloc, &upgrades, &ordinals)?;
+        let by_fault = setup::sets_by_fault(alloc, &rows, &ordinals)?;
+        let by_upgrade = setup::sets_by_upgrade(alloc, &rows, &ordinals)?;
         Ok(SlotTable {
             rows,
             index,
