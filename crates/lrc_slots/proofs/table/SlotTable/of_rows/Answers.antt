@@ -1,6 +1,6 @@
-use Rattle.std.proofs.Common.{rules, ◌≡◌, length, arith, sym, ◌∙◌}
+use Rattle.std.proofs.Common.{rules, ◌≡◌, length, arith}
 use Rattle.lrc_slots.specs.Indexes.{is_listed}
-use Rattle.lrc_slots.proofs.SetupLemmas.{ordinals-low, ordinals-few, ordinals-long, ordinals-apart, ordinals-made, sets-made, loads-made, indexed-made, load-key}
+use Rattle.lrc_slots.proofs.SetupLemmas.{ordinals-low, ordinals-few, ordinals-apart, ordinals-made, sets-made, loads-made, indexed-made, load-key}
 use Rattle.lrc_slots.proofs.table.SlotTable.of_rows.Goals as goal
 
 pub order-requires-clause-few : goal.order-requires-clause-few
