@@ -1,14 +1,14 @@
-use Rattle.std.proofs.Common.{rules}
-use Rattle.lrc_slots.proofs.SetLemmas.{filled-set}
+use Rattle.lrc_slots.proofs.SetLemmas.{inserted-listed, inserted-first}
 use Rattle.lrc_slots.proofs.ordinal_sets.OrdinalSets.insert.Goals as goal
 
 pub invariant_of-self : goal.invariant_of-self
-invariant_of-self c =
-    let s = c.self.inside in
-    record {
-      loads = search rules;
-      ordinals = search rules;
-      marks = search rules;
-      covered = search rules;
-      filled = rw c.insert-then-not-is_used.ensures (filled-set s.sets.items s.used c.args.load c.args.ordinal c.insert.new.self (search rules) (search rules) c.self.invariant.filled);
-    }
+invariant_of-self c = rw c.insert-then-not-is_used.ensures (inserted-first c.self.invariant c.args.load c.args.ordinal c.requires.load c.requires.ordinal
+    c.index_mut-set.result.now c.index_mut-set.ensures.value c.insert.new.self c.insert.ensures)
+
+pub returns-then-not-is_used : goal.returns-then-not-is_used
+returns-then-not-is_used c = λ l r. rw (← c.self.view_is) (inserted-listed c.self.invariant c.args.load c.args.ordinal c.requires.load c.requires.ordinal
+    c.index_mut-set.result.now c.index_mut-set.ensures.value c.insert.new.self c.insert.ensures l r)
+
+pub returns-else-not-is_used : goal.returns-else-not-is_used
+returns-else-not-is_used c = λ l r. rw (← c.self.view_is) (inserted-listed c.self.invariant c.args.load c.args.ordinal c.requires.load c.requires.ordinal
+    c.index_mut-set.result.now c.index_mut-set.ensures.value c.insert.new.self c.insert.ensures l r)
