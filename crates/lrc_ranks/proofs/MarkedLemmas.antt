@@ -105,11 +105,14 @@ module _ (bits marks : List Bool) (index word : ℕ) (marked : AreMarkedBelow bi
     needed = marked.needed;
   }
 
--- all blocks
-pub below-all : (bits marks : List Bool) (index : ℕ) → 64 ≤ index → AreMarkedBelow bits marks index → AreMarked bits marks
-below-all bits marks index most marked = record {
+-- all blocks with a member
+pub below-all : (bits marks : List Bool) (index : ℕ) → ((s : StripeNo) → index ≤ s.value / 64 → has bits s ≡ false) → AreMarkedBelow bits marks index → AreMarked bits marks
+below-all bits marks index rest marked = record {
   long = marked.long;
-  covered = λ s hit. marked.covered s (let low = s.in_range in omega (arith, low, most)) hit;
+  covered = λ s hit. elim (cases_lt (s.value / 64) index) [
+    | inl below ↦ marked.covered s below hit
+    | inr past ↦ absurd (let clash : true ≡ false = sym hit ∙ rest s past in cc)
+  ];
   needed = marked.needed;
 }
 

@@ -12,7 +12,7 @@ use crate::block::Block;
 use crate::fragment_sets::FragmentSets;
 use crate::marked_set::MarkedSet;
 use crate::planes::Planes;
-use crate::stripe_set::{BLOCKS, StripeSet};
+use crate::stripe_set::StripeSet;
 use lrc_code::StripeNo;
 use std::marker::Model;
 
@@ -69,7 +69,8 @@ impl ByRank {
         let mut two = StripeSet::new();
         let mut three = StripeSet::new();
         let mut four = StripeSet::new();
-        for index in 0..BLOCKS {
+        let blocks = planes.work.blocks();
+        for index in 0..blocks {
             let block = Block {
                 planes,
                 more,
@@ -84,11 +85,11 @@ impl ByRank {
         }
         ByRank {
             sets: [
-                MarkedSet::of(zero),
-                MarkedSet::of(one),
-                MarkedSet::of(two),
-                MarkedSet::of(three),
-                MarkedSet::of(four),
+                MarkedSet::of(zero, blocks),
+                MarkedSet::of(one, blocks),
+                MarkedSet::of(two, blocks),
+                MarkedSet::of(three, blocks),
+                MarkedSet::of(four, blocks),
             ],
         }
     }

@@ -1,9 +1,9 @@
-ghost use Rattle.std.specs.Prelude.{◌≡◌, ◌&&◌, ◌||◌, not, true, false};
+ghost use Rattle.std.specs.Prelude.{◌≡◌, ◌≤◌, ◌/◌, ◌&&◌, ◌||◌, not, true, false};
 ghost use Rattle.lrc_code.specs.Numbers.{same_stripe};
 ghost use Rattle.lrc_code.specs.declared.numbers.StripeNo.{StripeNo as AnyStripe};
 ghost use Rattle.lrc_ranks.specs.Sets.{FindsNext, has};
 
-use crate::stripe_set::{BLOCKS, StripeSet};
+use crate::stripe_set::StripeSet;
 use lrc_bits::BitSet;
 use lrc_code::StripeNo;
 use std::marker::Model;
@@ -38,12 +38,14 @@ impl MarkedSet {
         }
     }
 
-    /// Returns the set with these stripes.
-    pub(crate) fn of(set: StripeSet) -> MarkedSet
+    /// Returns the set with these stripes, all of which are in this number of blocks.
+    pub(crate) fn of(set: StripeSet, blocks: usize) -> MarkedSet
+        requires few { blocks ≤ 64 }
+        requires all { (s : AnyStripe) → blocks ≤ s.value / 64 → has set s ≡ false }
         ensures { has result ≡ has set }
     {
         let mut marks = BitSet::new();
-        for index in 0..BLOCKS {
+        for index in 0..blocks {
             if set.word(index) != 0 {
                 marks.insert(index);
             }

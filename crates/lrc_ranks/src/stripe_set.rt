@@ -10,7 +10,7 @@ use lrc_code::{STRIPES, StripeNo};
 use std::marker::Model;
 
 /// The number of blocks of 64 stripes.
-pub(crate) const BLOCKS: usize = STRIPES / 64;
+const BLOCKS: usize = STRIPES / 64;
 
 /// A set of stripes.
 #[derive(Drop)]
@@ -91,6 +91,18 @@ impl StripeSet {
         ensures { (s : AnyStripe) → s.value / 64 ≡ index → bits_set result (s.value % 64) ≡ has self.now s }
     {
         self.bits.word(index)
+    }
+
+    /// Returns the number of blocks up to the last one that has a stripe.
+    pub(crate) fn blocks(&self) -> usize
+        ensures few { result ≤ 64 }
+        ensures all { (s : AnyStripe) → result ≤ s.value / 64 → has self.now s ≡ false }
+    {
+        let mut count = BLOCKS;
+        while count > 0 && self.word(count - 1) == 0 {
+            count -= 1;
+        }
+        count
     }
 
     /// Sets which stripes of a block of 64 numbers are in the set, given as bits.
