@@ -12,16 +12,18 @@ pub struct UpgradingDomains {
     domains: BitSet<4>,
     /// Whether there is any.
     some: bool,
+    /// The only one, where it is known.
+    only: Option<UpgradeNo>,
 }
 
 impl Model for UpgradingDomains {
-    ghost use Rattle.std.specs.Prelude.{◌≡◌, ℕ, Bool, false, List, length, get_or};
+    ghost use Rattle.std.specs.Prelude.{◌≡◌, ℕ, Bool, false, List, length, get_or, nat_eq, IfSome};
 
     ghost Value = { List Bool };
 
     ghost view = { λ u. u.domains };
 
-    ghost invariant = { λ u. record { long : length u.domains ≡ 256; none : u.some ≡ false → (k : ℕ) → get_or u.domains k false ≡ false } };
+    ghost invariant = { λ u. record { long : length u.domains ≡ 256; none : u.some ≡ false → (k : ℕ) → get_or u.domains k false ≡ false; only : IfSome u.only (λ d. (k : ℕ) → get_or u.domains k false ≡ nat_eq k d.value) } };
 }
 
 impl UpgradingDomains {
@@ -32,6 +34,7 @@ impl UpgradingDomains {
         UpgradingDomains {
             domains: BitSet::new(),
             some: false,
+            only: None,
         }
     }
 
@@ -41,8 +44,10 @@ impl UpgradingDomains {
     {
         if is_upgrading {
             self.domains.insert(domain.value as usize);
+            self.only = if self.some { None } else { Some(domain) };
         } else {
             self.domains.remove(domain.value as usize);
+            self.only = None;
         }
         self.some = !self.domains.is_empty();
     }
@@ -62,11 +67,14 @@ impl UpgradingDomains {
         if !self.some {
             return LossMask::from_bits(0);
         }
+        if let Some(domain) = self.only {
+            return domains.in_upgrade(domain);
+        }
         self.fragments_among(domains)
     }
 
-    /// The same where there is such a domain. It is one as a rule.
-    #[inline(never)] // without one it is not called
+    /// The same where there is such a domain.
+    #[inline(never)] // with none or one it is not called as a rule
     fn fragments_among(&self, domains: &HomeDomains) -> LossMask
         ensures few { result.bits < 65536 }
         ensures on { (f : ℕ) → bits_set result.bits f ≡ (nat_lt f 16 && get_or self.now (get_or domains.now.upgrades f 0) false) }
