@@ -74,6 +74,7 @@ impl Book {
         ensures same { (self.new.nodes ≡ self.old.nodes) × (self.new.limit ≡ self.old.limit) × (self.new.base ≡ self.old.base) × (self.new.before ≡ self.old.before) }
         ensures history { self.new.history ≡ self.old.history ++ record { session = session; command = command; reply = (outcome_in self.old.nodes (world_of self.old) session command).0 } ∷ [] }
     {
+        self.store.look_ahead(&command);
         let answer = self.store.answer_to(
             &self.grants,
             self.repair_cursor,

@@ -84,6 +84,13 @@ impl StripeSet {
         self.bits.insert_common(&one.bits, &other.bits);
     }
 
+    /// Removes all stripes of the other set.
+    pub fn remove_all(&mut self, other: &StripeSet)
+        ensures { has self.new ≡ λ s. has self.old s && not (has other.now s) }
+    {
+        self.bits.remove_all(&other.bits);
+    }
+
     /// Returns the stripes of a block of 64 numbers, as bits.
     #[inline(always)]
     pub(crate) fn word(&self, index: usize) -> u64

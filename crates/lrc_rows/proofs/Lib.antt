@@ -7,5 +7,4 @@ pub mod ClearLemmas
 pub mod DomainLemmas
 pub mod ShortLemmas
 pub mod RenewLemmas
-pub mod OfflineLemmas
 pub mod UpgradingLemmas

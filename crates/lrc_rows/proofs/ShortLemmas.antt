@@ -1,8 +1,9 @@
--- Which stripes are short: those that have work, and those with homes on several nodes that are not online.
+-- Which stripes may be short: those that have work, and those with homes on several nodes that are not up.
 use Rattle.std.proofs.Common.{◌≡◌, ◌≢◌, ℕ, ◌+◌, ◌-◌, ◌<◌, zero, suc, cond, inl, inr, Bool, true, false, not, ◌&&◌, ◌||◌, nat_lt, nat_eq, ◌≤◌, List, [], ◌∷◌, length, map, take, get_or, Option, Some, None, is_none, option_and_then, arith, refl, sym, ap, ap₂, ◌∙◌, subst}
 use Rattle.std.proofs.Math.Path.{fun_ext}
 use Rattle.std.specs.List.{list_any, count_by, AllPairs}
-use Rattle.std.proofs.lemmas.Bool.{and_parts, cases_Bool, cases_lt, eq-eqb, eqb-true, lt-ltb, le-ltb, ltb-false}
+use Rattle.std.specs.Option.{option_map_or}
+use Rattle.std.proofs.lemmas.Bool.{not-true, and_parts, cases_Bool, cases_lt, eq-eqb, eqb-true, lt-ltb, le-ltb, ltb-false}
 use Rattle.std.proofs.lemmas.List.{get_or_past, get_or-map}
 use Rattle.lrc_bits.specs.Flags.{FindsFrom}
 use Rattle.std.proofs.lemmas.List.Folds.{list_any_at}
@@ -10,19 +11,19 @@ use Rattle.std.proofs.lemmas.List.Sums.{count_by_more_yes, count_by_more_no, sum
 use Rattle.lrc_code.specs.declared.numbers.NodeNo.{NodeNo}
 use Rattle.lrc_code.specs.declared.numbers.StripeNo.{StripeNo}
 use Rattle.lrc_topology.specs.declared.NodeInfo.{NodeInfo}
-use Rattle.lrc_nodes.specs.States.{is_node_online, is_node_offline}
+use Rattle.lrc_nodes.specs.States.{is_node_online, is_node_up, is_node_offline}
 use Rattle.lrc_rows.specs.declared.row.Row.{Row}
 use Rattle.lrc_nodes.specs.declared.node_state.NodeState.{NodeState}
 use Rattle.lrc_ranks.specs.declared.planes.Planes.{Planes}
 use Rattle.lrc_ranks.specs.Sets.{has, at_rank}
-use Rattle.lrc_rows.specs.NodeStates.{NodeStates, NodeLists, states_in, offline_in, is_on_several_offline}
+use Rattle.lrc_rows.specs.NodeStates.{NodeStates, NodeLists, states_in, down_among, is_on_several_down}
 use Rattle.lrc_rows.specs.Listed.{rows_in}
 use Rattle.lrc_terms.specs.Levels.{rank_by}
 use Rattle.lrc_homes.specs.Upgrading.{missing_with}
 use Rattle.lrc_ranks.specs.Ranks.{is_at}
 use Rattle.lrc_rows.specs.Kept.{AreQueued, row_has_work}
 use Rattle.lrc_homes.proofs.RankLemmas.{rank_by-few}
-use Rattle.lrc_nodes.proofs.StateLemmas.{no_state, online-own}
+use Rattle.lrc_nodes.proofs.StateLemmas.{no_state, state_at-own, offline-down}
 use Rattle.lrc_rows.proofs.NodeStateLemmas.{not-not, or-false, offline-all}
 use Rattle.lrc_rows.proofs.RowsLemmas.{rank_of_row}
 
@@ -75,12 +76,12 @@ module _ (list : List (Option Row)) (upgrading : List Bool) (needs : List ℕ) (
           omega (arith, same, most)
     ]
 
--- ---- nodes that are not online
+-- ---- nodes that are not up
 
 abbrev pub is_off : NodeStates → StripeNo → NodeState → Bool
-is_off z s x = not (z.online x.node.number) && z.on x.node.number s
+is_off z s x = not (z.up x.node.number) && z.on x.node.number s
 
--- how many of these nodes are not online and have a home of the stripe
+-- how many of these nodes are not up and have a home of the stripe
 abbrev pub counted : NodeStates → StripeNo → List NodeState → ℕ
 counted z s xs = count_by (is_off z s) xs
 
@@ -117,11 +118,15 @@ module _ (z : NodeStates) (xs : List NodeState) (i : ℕ) (d : NodeState) (withi
     | inr miss ↦ count_by_more_no (is_off z s) xs i d within miss ∙ ap (λ b. cond b (counted z s (take i xs) + 1) (counted z s (take i xs))) (sym miss)
   ]
 
-  -- a node that is online is not counted
-  count-same : z.online here.node.number ≡ true → (s : StripeNo) → counted z s (take i xs) ≡ counted z s (take (i + 1) xs)
+  -- a node that is up is not counted
+  count-same : z.up here.node.number ≡ true → (s : StripeNo) → counted z s (take i xs) ≡ counted z s (take (i + 1) xs)
   count-same on s = sym (count-next s ∙ ap (λ b. cond (not b && z.on here.node.number s) (counted z s (take i xs) + 1) (counted z s (take i xs))) on)
 
-  module _ (off : z.online here.node.number ≡ false) where
+  -- so a set of the stripes that are counted stays the same
+  pub same-next : z.up here.node.number ≡ true → (k : ℕ) (set : List Bool) → has set ≡ (λ s. nat_lt k (counted z s (take i xs))) → has set ≡ λ s. nat_lt k (counted z s (take (i + 1) xs))
+  same-next on k set is = is ∙ fun_ext (λ s. ap (nat_lt k) (count-same on s))
+
+  module _ (off : z.up here.node.number ≡ false) where
     own : (s : StripeNo) → counted z s (take (i + 1) xs) ≡ cond (z.on here.node.number s) (counted z s (take i xs) + 1) (counted z s (take i xs))
     own s = count-next s ∙ ap (λ b. cond (not b && z.on here.node.number s) (counted z s (take i xs) + 1) (counted z s (take i xs))) off
 
@@ -146,39 +151,46 @@ count-map {X} p f (x ∷ xs) =
     sum_by-cons (λ (y : X). cond (p (f y)) 1 0) x xs ∙ ap (λ (n : ℕ). cond (p (f x)) 1 0 + n) (count-map p f xs) ∙ sym (sum_by-cons (λ y. cond (p y) 1 0) (f x) (map f xs))
 
 pub on_more-nodes : (k : ℕ) (states : List NodeState) (sets : List (List Bool)) (t : NodeLists) (view : ◌≡◌ {A = NodeLists} (record { list = states; stripes = sets }) t)
-    → ◌≡◌ {A = StripeNo → Bool} (λ s. nat_lt k (counted (states_in t) s states)) (λ s. nat_lt k (offline_in (states_in t) s (states_in t).nodes))
+    → ◌≡◌ {A = StripeNo → Bool} (λ s. nat_lt k (counted (states_in t) s states)) (λ s. nat_lt k (down_among (states_in t) s (states_in t).nodes))
 unfolding states_in
 on_more-nodes k states sets t view =
-    subst (λ (y : NodeLists). ◌≡◌ {A = StripeNo → Bool} (λ s. nat_lt k (counted (states_in y) s states)) (λ s. nat_lt k (offline_in (states_in y) s (states_in y).nodes))) view
+    subst (λ (y : NodeLists). ◌≡◌ {A = StripeNo → Bool} (λ s. nat_lt k (counted (states_in y) s states)) (λ s. nat_lt k (down_among (states_in y) s (states_in y).nodes))) view
     (let now : NodeStates = states_in (record { list = states; stripes = sets }) in
-    fun_ext (λ s. ap (nat_lt k) (count-map (λ (n : NodeInfo). not (now.online n.number) && now.on n.number s) (λ (x : NodeState). x.node) states)))
+    fun_ext (λ s. ap (nat_lt k) (count-map (λ (n : NodeInfo). not (now.up n.number) && now.on n.number s) (λ (x : NodeState). x.node) states)))
 
--- a node of the list is online where it says so itself
-pub online-there : (states : List NodeState) (sets : List (List Bool)) (t : NodeLists) (view : ◌≡◌ {A = NodeLists} (record { list = states; stripes = sets }) t)
-    → AllPairs (λ (m n : NodeNo). m.value ≢ n.value) (map (λ x. x.node.number) states) → (i : ℕ) (d : NodeState) → i < length states → (states_in t).online (get_or states i d).node.number ≡ is_node_online (get_or states i d)
+-- a node of the list is up where it says so itself
+pub up-there : (states : List NodeState) (sets : List (List Bool)) (t : NodeLists) (view : ◌≡◌ {A = NodeLists} (record { list = states; stripes = sets }) t)
+    → AllPairs (λ (m n : NodeNo). m.value ≢ n.value) (map (λ x. x.node.number) states) → (i : ℕ) (d : NodeState) → i < length states → (states_in t).up (get_or states i d).node.number ≡ is_node_up (get_or states i d)
 unfolding states_in
-online-there states sets t view apart i d within =
-    subst (λ (y : NodeLists). (states_in y).online (get_or states i d).node.number ≡ is_node_online (get_or states i d)) view
-    (online-own states i d within apart)
+up-there states sets t view apart i d within =
+    subst (λ (y : NodeLists). (states_in y).up (get_or states i d).node.number ≡ is_node_up (get_or states i d)) view
+    (ap (λ (o : Option NodeState). option_map_or is_node_up o false) (state_at-own states i d within apart))
+
+-- a node that is online is up
+online-then_up : (x : NodeState) → is_node_online x ≡ true → is_node_up x ≡ true
+online-then_up x on = elim (cases_Bool (is_node_up x)) [
+  | inl up ↦ up
+  | inr down ↦ absurd (let clash : false ≡ true = offline-down (Some x) down ∙ on in cc)
+]
 
 -- where none of the nodes between is offline
 module _ (states : List NodeState) (sets : List (List Bool)) (t : NodeLists) (view : ◌≡◌ {A = NodeLists} (record { list = states; stripes = sets }) t)
     (apart : AllPairs (λ (m n : NodeNo). m.value ≢ n.value) (map (λ x. x.node.number) states)) where
-  -- a node is online or not, as the search has found
-  pub online-bit : (i : ℕ) (off : Bool) → i < length states → get_or (map is_node_offline states) i false ≡ off → (states_in t).online (get_or states i no_state).node.number ≡ not off
-  online-bit i off within is =
-      online-there states sets t view apart i no_state within
-      ∙ (sym (not-not (is_node_online (get_or states i no_state))) ∙ ap not (sym (get_or-map is_node_offline states i no_state false within) ∙ is))
+  -- a node that the search has passed is up
+  up-bit : (i : ℕ) → i < length states → get_or (map is_node_offline states) i false ≡ false → (states_in t).up (get_or states i no_state).node.number ≡ true
+  up-bit i within is =
+      let said : is_node_online (get_or states i no_state) ≡ true = sym (not-not (is_node_online (get_or states i no_state))) ∙ ap not (sym (get_or-map is_node_offline states i no_state false within) ∙ is) in
+      up-there states sets t view apart i no_state within ∙ online-then_up (get_or states i no_state) said
 
   counted-past : (s : StripeNo) (from gap : ℕ) → from + gap ≤ length states → ((i : ℕ) → from ≤ i → i < from + gap → get_or (map is_node_offline states) i false ≡ false)
       → counted (states_in t) s (take from states) ≡ counted (states_in t) s (take (from + gap) states)
   counted-past s from zero within none = ap (λ (n : ℕ). counted (states_in t) s (take n states)) (let same : from ≡ from + 0 = omega arith in same)
   counted-past s from (suc gap) within none =
       counted-past s from gap (omega (arith, within)) (λ i low high. none i low (omega (arith, high)))
-      ∙ (count-same (states_in t) states (from + gap) no_state (omega (arith, within)) (online-bit (from + gap) false (omega (arith, within)) (none (from + gap) (omega arith) (omega arith))) s
+      ∙ (count-same (states_in t) states (from + gap) no_state (omega (arith, within)) (up-bit (from + gap) (omega (arith, within)) (none (from + gap) (omega arith) (omega arith))) s
       ∙ ap (λ (n : ℕ). counted (states_in t) s (take n states)) (let same : from + gap + 1 ≡ from + suc gap = omega arith in same))
 
-  -- a set of the stripes with homes on so many offline nodes stays the same
+  -- a set of the stripes with homes on so many nodes that are not up stays the same
   pub set-past : (k : ℕ) (set : List Bool) (from p : ℕ) → from ≤ p → p ≤ length states → ((i : ℕ) → from ≤ i → i < p → get_or (map is_node_offline states) i false ≡ false)
       → has set ≡ (λ s. nat_lt k (counted (states_in t) s (take from states))) → has set ≡ λ s. nat_lt k (counted (states_in t) s (take p states))
   set-past k set from p later within none is =
@@ -200,20 +212,16 @@ count-within p q (x ∷ xs) all =
 
 -- where fewer than two nodes are offline, no stripe has homes on several of them
 pub few-on_several : (states : List NodeState) (sets : List (List Bool)) (t : NodeLists) (view : ◌≡◌ {A = NodeLists} (record { list = states; stripes = sets }) t)
-    → AllPairs (λ (m n : NodeNo). m.value ≢ n.value) (map (λ x. x.node.number) states) → count_by is_node_offline states < 2 → (λ (s : StripeNo). false) ≡ is_on_several_offline (states_in t)
+    → AllPairs (λ (m n : NodeNo). m.value ≢ n.value) (map (λ x. x.node.number) states) → count_by is_node_offline states < 2 → (λ (s : StripeNo). false) ≡ is_on_several_down (states_in t)
 few-on_several states sets t view apart few =
     fun_ext (λ s.
     let within = count-within (is_off (states_in t) s) is_node_offline states (λ i d inside hit.
     let at = get_or states i d in
-    let off = (and_parts (not ((states_in t).online at.node.number)) _ hit).0 in
-    let said = online-there states sets t view apart i d inside in
-    ap not (sym said) ∙ off) in
+    let off = not-true ((states_in t).up at.node.number) (and_parts (not ((states_in t).up at.node.number)) _ hit).0 in
+    let said = up-there states sets t view apart i d inside in
+    ap not (sym (offline-down (Some at) (sym said ∙ off)))) in
     sym (le-ltb 1 (counted (states_in t) s states) (omega (arith, within, few))))
     ∙ on_more-nodes 1 states sets t view
-
--- nor on many
-pub few-on_many : (n : ℕ) → nat_lt 1 n ≡ false → nat_lt 2 n ≡ false
-few-on_many n few = let most = ltb-false 1 n few in le-ltb 2 n (omega (arith, most))
 
 -- where none of them passes the test, none passes it and another
 none-both : (p q : NodeState → Bool) (xs : List NodeState) → ((i : ℕ) (d : NodeState) → i < length xs → p (get_or xs i d) ≡ false) → list_any (λ x. p x && q x) xs ≡ false

@@ -65,19 +65,10 @@ abbrev pub IsPositionOf : NodeLists → NodeNo → Option ℕ → Type 0
 IsPositionOf t n None = (length t.list ≤ node_position t.list n) × (length t.stripes ≡ length t.list)
 IsPositionOf t n (Some p) = (p ≡ node_position t.list n) × (p < length t.list) × (length t.stripes ≡ length t.list)
 
--- the number of these nodes that are not online and have a home of the stripe
-abbrev pub offline_in : NodeStates → StripeNo → List NodeInfo → ℕ
-offline_in states s nodes = count_by (λ n. not (states.online n.number) && states.on n.number s) nodes
+-- the number of these nodes that are not up and have a home of the stripe
+abbrev pub down_among : NodeStates → StripeNo → List NodeInfo → ℕ
+down_among states s nodes = count_by (λ n. not (states.up n.number) && states.on n.number s) nodes
 
--- several nodes are not online and have a home of the stripe
-abbrev pub is_on_several_offline : NodeStates → StripeNo → Bool
-is_on_several_offline states s = nat_lt 1 (offline_in states s states.nodes)
-
--- more than two nodes are not online and have a home of the stripe
-abbrev pub is_on_many_offline : NodeStates → StripeNo → Bool
-is_on_many_offline states s = nat_lt 2 (offline_in states s states.nodes)
-
--- these are offline nodes, and all of them that have a home of a stripe
-pub record AreOffline (states : NodeStates) (numbers : List NodeNo) : Type 0 where
-  pub offline : (n : NodeNo) → list_any (same_node n) numbers ≡ true → states.online n ≡ false
-  pub all : (n : NodeNo) (s : StripeNo) → states.online n ≡ false → states.on n s ≡ true → list_any (same_node n) numbers ≡ true
+-- several nodes are not up and have a home of the stripe
+abbrev pub is_on_several_down : NodeStates → StripeNo → Bool
+is_on_several_down states s = nat_lt 1 (down_among states s states.nodes)

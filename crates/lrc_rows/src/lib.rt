@@ -3,15 +3,11 @@
 #![tactic(auto)]
 
 mod node_table;
-mod offline_nodes;
-mod offline_stripes;
 mod row;
 mod rows;
 mod upgrading_domains;
 
 pub use node_table::NodeTable;
-pub use offline_nodes::OfflineNodes;
-pub use offline_stripes::OfflineStripes;
 pub use row::Row;
 pub use rows::Rows;
 pub use upgrading_domains::UpgradingDomains;

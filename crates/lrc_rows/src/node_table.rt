@@ -284,7 +284,7 @@ impl NodeTable {
     }
 
     /// The stripes with a home on the node; `None` if there is no such node.
-    pub(crate) fn stripes_on(&self, number: NodeNo) -> Option<&StripeSet>
+    pub fn stripes_on(&self, number: NodeNo) -> Option<&StripeSet>
         ensures set { IfSome result (λ set. has set.now ≡ (states_in self.now).on number) }
         ensures none { IfNone result ((s : AnyStripe) → (states_in self.now).on number s ≡ false) }
     {

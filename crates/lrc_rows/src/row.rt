@@ -3,7 +3,7 @@ ghost use Rattle.std.specs.List.{list_any};
 ghost use Rattle.lrc_code.specs.Codes.{fragment_count};
 ghost use Rattle.lrc_code.specs.Losses.{bits_set, bits_of};
 ghost use Rattle.lrc_homes.specs.Homes.{seated_homes, sits_on, is_on_seat, is_missing};
-ghost use Rattle.lrc_rows.specs.NodeStates.{NodeStates as AnyStates, states_in, AreOffline, AreUpgrading};
+ghost use Rattle.lrc_rows.specs.NodeStates.{states_in, AreUpgrading};
 ghost use Rattle.lrc_homes.specs.Masks.{AreAll, AreKept, renewed, missing_of};
 ghost use Rattle.lrc_homes.specs.Domains.{AreDomainsOf};
 ghost use Rattle.lrc_homes.specs.Upgrading.{in_upgrade, missing_with, work_rank_with};
@@ -11,7 +11,6 @@ ghost use Rattle.lrc_code.specs.declared.numbers.NodeNo.{NodeNo as AnyNode};
 ghost use Rattle.lrc_code.specs.declared.numbers.StripeNo.{StripeNo as AnyStripe};
 
 use crate::node_table::NodeTable;
-use crate::offline_nodes::OfflineNodes;
 use crate::upgrading_domains::UpgradingDomains;
 use lrc_code::{Code, Fragment, LossMask, StripeNo, UpgradeNo};
 use lrc_homes::{HomeDomains, Homes, Losses, masks};
@@ -116,44 +115,8 @@ impl Row {
         losses
     }
 
-    /// The same where the offline nodes are known, if they are few.
-    #[inline(always)] // a walk over many stripes calls it
-    pub fn losses_kept_beside(
-        &self,
-        node_table: &NodeTable,
-        upgrading: &UpgradingDomains,
-        offline: Option<&OfflineNodes>,
-        stripe: StripeNo,
-    ) -> Losses
-        requires kept { AreKept (states_in node_table.now).up (states_in node_table.now).draining self.now.homes self.now.losses }
-        requires domains { AreDomainsOf (states_in node_table.now).nodes (λ f. get_or self.now.homes f None) self.now.domains }
-        requires stands { (n : AnyNode) → list_any (sits_on n) self.now.homes ≡ true → (states_in node_table.now).on n stripe ≡ true }
-        requires upgrading { AreUpgrading node_table.now.list upgrading.now }
-        requires offline { IfSome offline (λ o. AreOffline (states_in node_table.now) o.now) }
-        ensures { result ≡ renewed (states_in node_table.now).online self.now.homes self.now.losses }
-    {
-        if self.losses.needs.bits == 0 {
-            if let Some(offline) = offline {
-                return self.losses_beside(offline);
-            }
-        }
-        self.losses_kept(node_table, upgrading, stripe)
-    }
-
-    /// The losses with the missing fragments of now: those without a home, and those with one on an offline node.
-    #[inline(always)] // likewise
-    fn losses_beside(&self, offline: &OfflineNodes) -> Losses
-        ensures { (states : AnyStates) (s : AnyStripe) → AreOffline states offline.now → AreKept states.up states.draining self.now.homes self.now.losses
-            → ((n : AnyNode) → list_any (sits_on n) self.now.homes ≡ true → states.on n s ≡ true) → result ≡ renewed states.online self.now.homes self.now.losses }
-    {
-        let mut losses = self.losses;
-        let bits = self.losses.homeless.bits | offline.fragments_on(&self.homes).bits;
-        losses.missing = LossMask::from_bits(bits);
-        losses
-    }
-
     /// The missing fragments of a row with work: those of the mask, and those with a home in an upgrading domain.
-    pub fn missing(&self, upgrading: &UpgradingDomains) -> LossMask
+    fn missing(&self, upgrading: &UpgradingDomains) -> LossMask
         ensures { (f : ℕ) → bits_set result.bits f ≡ missing_with upgrading.now self.now.homes self.now.domains self.now.losses f }
     {
         LossMask::from_bits(self.losses.missing.bits | self.in_upgrade(upgrading).bits)

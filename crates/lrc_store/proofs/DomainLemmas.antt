@@ -1,5 +1,5 @@
 -- How the stored stripes follow an upgrade domain that is upgrading, or no longer.
-use Rattle.std.proofs.Common.{◌≡◌, Bool, true, false, if◌then◌else◌, List, Option, Some, None, refl, ap, ◌∙◌}
+use Rattle.std.proofs.Common.{◌≡◌, Bool, true, false, if◌then◌else◌, List, [], ◌∷◌, map, Option, Some, None, refl, sym, ap, ap₂, ◌∙◌}
 use Rattle.std.specs.Option.{option_map_or}
 use Rattle.lrc_code.specs.declared.numbers.UpgradeNo.{UpgradeNo}
 use Rattle.lrc_code.specs.Numbers.{same_upgrade}
@@ -7,12 +7,13 @@ use Rattle.lrc_topology.specs.declared.NodeInfo.{NodeInfo}
 use Rattle.lrc_nodes.specs.declared.node_state.NodeState.{NodeState}
 use Rattle.lrc_stripes.specs.Stored.{Stored}
 use Rattle.lrc_stripes.specs.Stored as stored
+use Rattle.lrc_stripes.specs.Upgrades.{at_rest}
 use Rattle.lrc_stripes.specs.Tables as tables
 use Rattle.lrc_stripes.specs.Tables.{stored_in}
 use Rattle.lrc_store.specs.declared.store.Store.{Store}
 use Rattle.lrc_rules.specs.States.{State, is_upgrading}
 use Rattle.lrc_rules.specs.Steps.{with_upgrading, without_upgrading}
-use Rattle.lrc_store.specs.Stores.{IsOf, stored_of}
+use Rattle.lrc_store.specs.Stores.{IsOf, node_state, stored_of}
 use Rattle.lrc_rules.proofs.SeatedLemmas.{upgrading-seated}
 use Rattle.lrc_rules.proofs.LookUpLemmas.{test-sym}
 use Rattle.lrc_store.proofs.NodeStateLemmas.{upgrading-set}
@@ -39,6 +40,16 @@ module _ (nodes : List NodeInfo) (st : State) (u : UpgradeNo) where
         neither : (b : Bool) → (if b then false else b) ≡ false
         neither true = refl
         neither false = refl
+
+  -- where none is, the stripes are those with none upgrading
+  pub domains-rest : st.upgrading ≡ None → at_rest (stored_of nodes st) ≡ stored_of nodes st
+  domains-rest none = ap (λ (list : List NodeState). record (stored_of nodes st) { nodes = list }) (resting nodes) where
+    off : (x : NodeInfo) → is_upgrading st x ≡ false
+    off x = ap (λ (o : Option UpgradeNo). option_map_or (λ v. same_upgrade v x.upgrade) o false) none
+
+    resting : (ns : List NodeInfo) → map {A = NodeState} {B = NodeState} (λ x. record x { is_upgrading = false }) (map (node_state st) ns) ≡ map (node_state st) ns
+    resting [] = refl
+    resting (x ∷ ns) = ap₂ (λ (y : NodeState) (ys : List NodeState). y ∷ ys) (ap (λ (b : Bool). let y : NodeState = record (node_state st x) { is_upgrading = b } in y) (sym (off x))) (resting ns)
 
 -- with the stripes told, what is kept is that of the state in which a domain is upgrading, or none
 pub domain-kept : (st : State) (upgrading : Option UpgradeNo) (k : Store) (stripes : tables.Table) → IsOf st k

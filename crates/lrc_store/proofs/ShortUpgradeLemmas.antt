@@ -1,4 +1,4 @@
--- A stripe that an upgrade would lose is short: it misses several fragments; and it needs a lease, or has homes on more than two nodes that are not online, or on two, and the domain takes a global parity.
+-- A stripe that an upgrade would lose is short: it needs a lease, or has homes on several nodes that are not online.
 use Rattle.std.proofs.Common.{[], ◌≡◌, ◌≢◌, ℕ, ◌+◌, ◌-◌, ◌≤◌, ◌<◌, inl, inr, Bool, true, false, not, ◌&&◌, ◌||◌, nat_lt, nat_le, cond, List, ◌∷◌, map, ap₂, Option, Some, None, option_map, ap₂, IsFalse, IsSomeAnd, arith, refl, sym, ap, ap₂, ◌∙◌, subst}
 use Rattle.std.specs.List.{Contains, AllPairs, count_by}
 use Rattle.std.specs.Option.{option_map_or}
@@ -26,7 +26,7 @@ use Rattle.lrc_topology.specs.Nodes.{node_at}
 use Rattle.lrc_terms.specs.Levels.{home_of, homes_of, missing_in, needs_in, has_some}
 use Rattle.lrc_nodes.specs.States.{online_in}
 use Rattle.lrc_stripes.specs.Stored.{Stored, is_home_on, has_work}
-use Rattle.lrc_stripes.specs.Upgrades.{is_stripe_on, offline_count, misses_several, IsFirstLostTo, IsFirstShortLostTo, is_short_lost_to}
+use Rattle.lrc_stripes.specs.Upgrades.{is_stripe_on, offline_count, IsFirstLostTo, IsFirstShortLostTo, is_short_lost_to}
 use Rattle.lrc_terms.proofs.LevelLemmas.{has_some-false}
 use Rattle.lrc_terms.specs.declared.mode.Mode.TheVariants.{Gone}
 use Rattle.lrc_rules.specs.States.{State, has_stripe, code_of, held_by, seats_of, taken_seats, mode_of, online_at, drains_at, missing}
@@ -105,9 +105,6 @@ count-places {X} {Y} test on counted xs distinct (y ∷ ys) place counts apart =
 
 few-in_all : (a b g a1 b1 g1 a0 b0 g0 : ℕ) → a ≤ a1 + a0 → b ≤ b1 + b0 → g ≤ g1 + g0 → a1 ≤ 1 → b1 ≤ 1 → g1 ≤ 1 → a0 + b0 + g0 ≤ 1 → (a - 1) + (b - 1) + g ≤ 2
 few-in_all a b g a1 b1 g1 a0 b0 g0 x y z p q r few = omega (arith, x, y, z, p, q, r, few)
-
-two-in_all : (a b g a1 b1 g1 a0 b0 g0 : ℕ) → a ≤ a1 + a0 → b ≤ b1 + b0 → g ≤ g1 + g0 → a1 ≤ 1 → b1 ≤ 1 → g1 ≤ 0 → a0 + b0 + g0 ≤ 2 → (a - 1) + (b - 1) + g ≤ 2
-two-in_all a b g a1 b1 g1 a0 b0 g0 x y z p q r few = omega (arith, x, y, z, p, q, r, few)
 
 -- ---- a stripe without work
 
@@ -235,12 +232,6 @@ module _ (nodes : List NodeInfo) (st : State) (s : StripeNo) (seated : AreSeated
       few-in_all _ _ _ (losses_in here A new) (losses_in here B new) (losses_in here G new) (losses_in here A now) (losses_in here B now) (losses_in here G now)
       (part A) (part B) (part G) (one A) (one B) (one G) (subst (λ (n : ℕ). n ≤ 1) (size_of-classes here now) few)
 
-  -- and where it misses at most two, and the upgrade takes no global parity
-  pub two-then : size_of here now ≤ 2 → losses_in here G new ≤ 0 → excess here then ≤ 2
-  two-then few none =
-      two-in_all _ _ _ (losses_in here A new) (losses_in here B new) (losses_in here G new) (losses_in here A now) (losses_in here B now) (losses_in here G now)
-      (part A) (part B) (part G) (one A) (one B) none (subst (λ (n : ℕ). n ≤ 2) (size_of-classes here now) few)
-
 -- ---- the stripes that are lost
 
 or_false : (a b : Bool) → (a || b) ≡ false → (a ≡ false) × (b ≡ false)
@@ -252,43 +243,20 @@ and-off true e = e
 and-off false e = refl
 
 module _ (nodes : List NodeInfo) (st : State) (seated : AreSeated nodes st) (u : UpgradeNo) (none : st.upgrading ≡ None) where
-  few-misses : (s : StripeNo) → misses_several (stored_of nodes st) s ≡ false → size_of (code_of st s) (missing nodes st s) ≤ 1
-  few-misses s few =
-      let more : nat_le 2 (size_of (code_of st s) (missing nodes st s)) ≡ false =
-      ap (λ (online : NodeNo → Bool). nat_le 2 (size_of (code_of st s) (missing_in (code_of st s) online (homes_of st.homes s)))) (sym (online-kept nodes st)) ∙ few in
-      let below = leb-false 2 (size_of (code_of st s) (missing nodes st s)) more in
-      omega (arith, below)
-
-  -- the fragments that the domain takes
-  loses-as : (s : StripeNo) → upgrades.loses_global (stored_of nodes st) u s ≡ nat_lt 0 (losses_in (code_of st s) G (added nodes st u s seated))
-  loses-as s =
-      ap (λ (t : Stored). nat_lt 0 (losses_in (code_of st s) G (λ f. not (missing_in (code_of st s) (online_in (stored_of nodes st).nodes) (homes_of st.homes s) f) && missing_in (code_of st s) (online_in t.nodes) (homes_of st.homes s) f)))
-      (domain-out nodes st u none)
-      ∙ ap₂ (λ (now later : NodeNo → Bool). nat_lt 0 (losses_in (code_of st s) G (λ f. not (missing_in (code_of st s) now (homes_of st.homes s) f) && missing_in (code_of st s) later (homes_of st.homes s) f)))
-      (online-kept nodes st) (online-kept nodes (with_upgrading st u))
-
   -- a stripe that is not short stays recoverable
-  few-after : (s : StripeNo) → has_stripe st s ≡ true → upgrades.is_short (stored_of nodes st) u s ≡ false
+  few-after : (s : StripeNo) → has_stripe st s ≡ true → upgrades.is_short (stored_of nodes st) s ≡ false
       → excess (code_of st s) (missing nodes (with_upgrading st u) s) ≤ 2
   unfolding upgrades.is_short
-  few-after s there e = elim (and_cases _ _ e) [
-    | inl none ↦
-        let unsure = or_false _ _ none in
-        let idle = or_false _ _ unsure.0 in
-        let count = few-now nodes st s seated there idle.1 in
-        elim (and_cases _ _ unsure.1) [
-          | inl miss ↦ let most = ltb-false 1 (offline_count (stored_of nodes st) s) miss in few-then nodes st s seated u (omega (arith, count, most))
-          | inr kept ↦
-              let most = ltb-false 2 (offline_count (stored_of nodes st) s) idle.0 in
-              two-then nodes st s seated u (omega (arith, count, most)) (ltb-false _ _ (sym (loses-as s) ∙ kept))
-        ]
-    | inr few ↦ few-then nodes st s seated u (few-misses s few)
-  ]
+  few-after s there e =
+      let parts = or_false _ _ e in
+      let count = few-now nodes st s seated there parts.1 in
+      let most = ltb-false 1 (offline_count (stored_of nodes st) s) parts.0 in
+      few-then nodes st s seated u (omega (arith, count, most))
 
   -- a stripe that is lost is short
-  pub lost-short : (s : StripeNo) → upgrades.is_lost_to (stored_of nodes st) u s ≡ true → upgrades.is_short (stored_of nodes st) u s ≡ true
-  lost-short s lost = by (upgrades.is_short (stored_of nodes st) u s) refl where
-    by : (b : Bool) → upgrades.is_short (stored_of nodes st) u s ≡ b → upgrades.is_short (stored_of nodes st) u s ≡ true
+  pub lost-short : (s : StripeNo) → upgrades.is_lost_to (stored_of nodes st) u s ≡ true → upgrades.is_short (stored_of nodes st) s ≡ true
+  lost-short s lost = by (upgrades.is_short (stored_of nodes st) s) refl where
+    by : (b : Bool) → upgrades.is_short (stored_of nodes st) s ≡ b → upgrades.is_short (stored_of nodes st) s ≡ true
     by true e = e
     by false e = absurd (
         let parts = and_parts (has_stripe st s) (is_lost_to nodes st u s) (sym (lost-as nodes st u none s) ∙ lost) in
@@ -304,14 +272,14 @@ module _ (nodes : List NodeInfo) (st : State) (seated : AreSeated nodes st) (u :
   -- so the first short one that is lost is the first that is
   pub short-first : (s : StripeNo) → IsFirstShortLostTo (stored_of nodes st) u s → IsFirstLostTo (stored_of nodes st) u s
   short-first s is = record {
-    lost = (and_parts (upgrades.is_short (stored_of nodes st) u s) _ is.lost).1;
+    lost = (and_parts (upgrades.is_short (stored_of nodes st) s) _ is.lost).1;
     first = λ r lower. lost-either r (is.first r lower);
   }
 
   pub first-short : (s : StripeNo) → IsFirstLostTo (stored_of nodes st) u s → IsFirstShortLostTo (stored_of nodes st) u s
   first-short s is = record {
     lost = and_from _ _ (lost-short s is.lost) is.lost;
-    first = λ r lower. and-off (upgrades.is_short (stored_of nodes st) u r) (is.first r lower);
+    first = λ r lower. and-off (upgrades.is_short (stored_of nodes st) r) (is.first r lower);
   }
 
   pub short-none : ((s : StripeNo) → IsFalse (is_short_lost_to (stored_of nodes st) u s)) → (s : StripeNo)

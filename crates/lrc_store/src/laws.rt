@@ -16,7 +16,7 @@ ghost use Rattle.lrc_store.specs.Stores.{stored_of};
 pub fn only_short_stripes_are_lost_to_upgrades()
     ensures short { (nodes : List NodeInfo) (st : State) (u : UpgradeNo) (s : StripeNo)
         → AreSeated nodes st → st.upgrading ≡ None
-        → IsTrue (is_lost_to (stored_of nodes st) u s) → IsTrue (is_short (stored_of nodes st) u s) }
+        → IsTrue (is_lost_to (stored_of nodes st) u s) → IsTrue (is_short (stored_of nodes st) s) }
     ensures first { (nodes : List NodeInfo) (st : State) (u : UpgradeNo) (s : StripeNo)
         → AreSeated nodes st → st.upgrading ≡ None
         → IsFirstShortLostTo (stored_of nodes st) u s ↔ IsFirstLostTo (stored_of nodes st) u s }

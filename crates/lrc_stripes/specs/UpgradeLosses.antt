@@ -1,63 +1,51 @@
 -- Internal: no public clause reaches these definitions.
--- Which rows become unrecoverable while an upgrade domain is offline, by the stored masks.
-use Rattle.std.specs.Prelude.{ℕ, ◌<◌, Bool, false, not, ◌&&◌, ◌||◌, nat_lt, nat_le, count_ones, IsTrue, IsFalse, List, get_or, Option, None}
-use Rattle.std.specs.Option.{option_map_or}
+-- Which rows become unrecoverable while an upgrade domain is offline, where no other is; and what is kept of them.
+use Rattle.std.specs.Prelude.{◌≡◌, ℕ, ◌<◌, ◌≤◌, Bool, true, false, not, ◌&&◌, ◌||◌, IsTrue, IsFalse, List, [], get_or, Option, is_some, vec_capacity}
 use Rattle.lrc_code.specs.declared.codes.Code.{Code}
-use Rattle.lrc_code.specs.declared.codes.Class.TheVariants.{G}
 use Rattle.lrc_code.specs.declared.numbers.StripeNo.{StripeNo}
+use Rattle.lrc_code.specs.declared.numbers.NodeNo.{NodeNo}
 use Rattle.lrc_code.specs.declared.numbers.UpgradeNo.{UpgradeNo}
-use Rattle.lrc_code.specs.Losses.{FragmentSet, bits_set, losses_in, size_of, is_recoverable}
+use Rattle.lrc_code.specs.Losses.{is_recoverable}
 use Rattle.lrc_topology.specs.declared.NodeInfo.{NodeInfo}
-use Rattle.lrc_topology.specs.declared.seat.Seat.{Seat}
+use Rattle.lrc_terms.specs.Levels.{Homes, missing_in}
+use Rattle.lrc_ranks.specs.Sets.{has}
 use Rattle.lrc_rows.specs.declared.row.Row.{Row}
-use Rattle.lrc_rows.specs.NodeStates.{NodeStates, is_in_domain, is_on_several_offline, is_on_many_offline}
-use Rattle.lrc_rows.specs.Listed.{rows_in}
-use Rattle.lrc_rows.specs.Kept.{freshened, row_has_work}
+use Rattle.lrc_rows.specs.NodeStates.{NodeStates, is_in_domain, is_on_several_down}
+use Rattle.lrc_rows.specs.Listed.{rows_in, row_code, row_homes}
+use Rattle.lrc_rows.specs.Kept.{row_has_work}
+use Rattle.lrc_stripes.specs.declared.verdicts.Verdicts.{Verdicts}
 
--- the home is on a node of the domain
-abbrev pub is_home_in : List NodeInfo → UpgradeNo → Option Seat → Bool
-is_home_in nodes u home = option_map_or (λ seat. is_in_domain nodes u seat.node) home false
+-- the stripe with this code and these homes, if there is one, is recoverable, and would not be with the nodes of the domain offline
+unfoldable pub lost_by : List NodeInfo → (NodeNo → Bool) → UpgradeNo → Bool → Code → Homes → Bool
+lost_by nodes up u there code homes =
+    there && (is_recoverable code (missing_in code up homes) && not (is_recoverable code (missing_in code (λ n. up n && not (is_in_domain nodes u n)) homes)))
 
--- the missing fragments of the row, and those with a home in the domain
-abbrev pub missing_without : List NodeInfo → UpgradeNo → Row → FragmentSet
-missing_without nodes u r f = bits_set r.losses.missing.bits f || (nat_lt f 16 && is_home_in nodes u (get_or r.homes f None))
+-- the same of a row
+abbrev pub row_lost : NodeStates → UpgradeNo → Option Row → Bool
+row_lost states u o = lost_by states.nodes states.up u (is_some o) (row_code o) (row_homes o)
 
--- the stripe of the row is recoverable, and would not be with the nodes of the domain offline
-unfoldable pub is_row_lost : NodeStates → UpgradeNo → Row → Bool
-is_row_lost states u r = is_recoverable r.losses.code (bits_set r.losses.missing.bits) && not (is_recoverable r.losses.code (missing_without states.nodes u r))
-
--- several fragments of the row are missing
-abbrev pub misses_two : Row → Bool
-misses_two r = nat_le 2 (size_of r.losses.code (bits_set r.losses.missing.bits))
-
--- the domain takes a fragment of the row that is a global parity, and is not missing
-abbrev pub row_loses_global : List NodeInfo → UpgradeNo → Row → Bool
-row_loses_global nodes u r = nat_lt 0 (losses_in r.losses.code G (λ f. not (bits_set r.losses.missing.bits f) && missing_without nodes u r f))
-
--- the row is lost and misses several fragments; and it is sure to be short, or the domain takes a global parity
-abbrev pub is_short_row : NodeStates → UpgradeNo → Bool → Row → Bool
-is_short_row states u is_sure r = (is_sure || row_loses_global states.nodes u r) && (misses_two r && is_row_lost states u r)
-
--- the same by the masks of the missing fragments and of the homes in the domain
-abbrev pub is_short_by_masks : Code → Bool → ℕ → ℕ → Bool
-is_short_by_masks code is_sure missing homes =
-    (nat_le 2 (count_ones missing) && (is_sure || nat_lt 0 (losses_in code G (λ f. bits_set homes f && not (bits_set missing f)))))
-    && (is_recoverable code (bits_set missing) && not (is_recoverable code (λ f. bits_set missing f || bits_set homes f)))
-
--- the stripe has such a row, where these are sure to be short
-abbrev pub has_short_row : NodeStates → (StripeNo → Option Row) → UpgradeNo → (StripeNo → Bool) → StripeNo → Bool
-has_short_row states rows u sure s = option_map_or (is_short_row states u (sure s)) (rows s) false
-
--- the stripe is sure to be short if it misses several fragments, by its row and the nodes
-abbrev pub is_sure : NodeStates → List (Option Row) → StripeNo → Bool
-is_sure states rows s = is_on_many_offline states s || row_has_work (rows_in rows s)
+-- the same of a stripe
+abbrev pub lost_in : NodeStates → List (Option Row) → UpgradeNo → StripeNo → Bool
+lost_in states rows u s = row_lost states u (rows_in rows s)
 
 -- the stripe is short, by its row and the nodes, and lost to the domain
 abbrev pub short_lost_in : NodeStates → List (Option Row) → UpgradeNo → StripeNo → Bool
-short_lost_in states rows u s =
-    (is_on_several_offline states s || is_sure states rows s) && has_short_row states (rows_in (freshened states.online rows)) u (is_sure states rows) s
+short_lost_in states rows u s = (is_on_several_down states s || row_has_work (rows_in rows s)) && lost_in states rows u s
 
 -- the stripe passes the test, and none of a lower number does
 pub record IsFirstIn (test : StripeNo → Bool) (s : StripeNo) : Type 0 where
   pub has : IsTrue (test s)
   pub first : (t : StripeNo) → t.value < s.value → IsFalse (test t)
+
+-- these are some of a set, and of the others none passes the test
+pub record AreLeft (among test left : StripeNo → Bool) : Type 0 where
+  pub within : (t : StripeNo) → left t ≡ true → among t ≡ true
+  pub none : (t : StripeNo) → left t ≡ false → (among t && test t) ≡ false
+
+-- Where these stripes are lost to each domain, a safe one that did not change is not. Where nothing changed, the set has those
+-- with homes on several nodes that are not up, as told. There is room for a set of each domain.
+pub record AreVerdicts (lost : UpgradeNo → StripeNo → Bool) (several : StripeNo → Bool) (v : Verdicts) : Type 0 where
+  pub room : 256 ≤ vec_capacity v.safe
+  pub safe : (u : UpgradeNo) (s : StripeNo) → has (get_or v.safe.items u.value []) s ≡ true → has v.changed s ≡ false → lost u s ≡ false
+  pub unchanged : v.is_settled ≡ true → (s : StripeNo) → has v.changed s ≡ false
+  pub counted : v.is_settled ≡ true → has v.several ≡ several

@@ -1,16 +1,20 @@
 -- Which stripes become unrecoverable while an upgrade domain is offline.
-use Rattle.std.specs.Prelude.{ℕ, ◌<◌, Bool, true, not, ◌&&◌, ◌||◌, nat_lt, nat_le, IsTrue, IsFalse, count_by}
+use Rattle.std.specs.Prelude.{ℕ, ◌<◌, Bool, true, false, not, ◌&&◌, ◌||◌, nat_lt, map, IsTrue, IsFalse, count_by}
 use Rattle.std.specs.List.{list_any}
-use Rattle.lrc_code.specs.declared.codes.Class.TheVariants.{G}
 use Rattle.lrc_code.specs.declared.codes.Code.TheVariants.{Wide}
 use Rattle.lrc_code.specs.declared.numbers.StripeNo.{StripeNo}
 use Rattle.lrc_code.specs.declared.numbers.NodeNo.{NodeNo}
 use Rattle.lrc_code.specs.declared.numbers.UpgradeNo.{UpgradeNo}
 use Rattle.lrc_code.specs.Codes.{fragments}
-use Rattle.lrc_code.specs.Losses.{FragmentSet, losses_in, size_of, is_recoverable}
+use Rattle.lrc_code.specs.Losses.{is_recoverable}
 use Rattle.lrc_terms.specs.Levels.{missing_in}
+use Rattle.lrc_nodes.specs.declared.node_state.NodeState.{NodeState}
 use Rattle.lrc_nodes.specs.States.{infos_in, online_in}
 use Rattle.lrc_stripes.specs.Stored.{Stored, with_upgrading_in, is_home_on, has_work}
+
+-- no domain is upgrading
+abbrev pub at_rest : Stored → Stored
+at_rest t = record t { nodes = map {A = NodeState} {B = NodeState} (λ x. record x { is_upgrading = false }) t.nodes }
 
 -- the domain is upgrading
 abbrev pub with_upgrade : Stored → UpgradeNo → Stored
@@ -32,28 +36,13 @@ is_stripe_on t n s = list_any (λ f. is_home_on t n (s, f)) (fragments Wide)
 abbrev pub offline_count : Stored → StripeNo → ℕ
 offline_count t s = count_by (λ n. not (online_in t.nodes n.number) && is_stripe_on t n.number s) (infos_in t.nodes)
 
--- several of its fragments are missing
-abbrev pub misses_several : Stored → StripeNo → Bool
-misses_several t s = nat_le 2 (size_of (t.code s) (missing_in (t.code s) (online_in t.nodes) (t.homes s)))
+-- it needs a lease, or its homes are on several nodes that are not online
+unfoldable pub is_short : Stored → StripeNo → Bool
+is_short t s = nat_lt 1 (offline_count t s) || has_work t s
 
--- the fragments of the stripe that are there now, and would be missing with the nodes of the domain offline
-abbrev pub taken_by : Stored → UpgradeNo → StripeNo → FragmentSet
-taken_by t u s f =
-    not (missing_in (t.code s) (online_in t.nodes) (t.homes s) f) && missing_in (t.code s) (online_in (with_upgrade t u).nodes) (t.homes s) f
-
--- one of them is a global parity
-abbrev pub loses_global : Stored → UpgradeNo → StripeNo → Bool
-loses_global t u s = nat_lt 0 (losses_in (t.code s) G (taken_by t u s))
-
--- Several of its fragments are missing. And one needs a lease, or its homes are on more than two nodes that are not online, or
--- on two, and the domain takes a global parity.
-unfoldable pub is_short : Stored → UpgradeNo → StripeNo → Bool
-is_short t u s =
-    ((nat_lt 2 (offline_count t s) || has_work t s) || (nat_lt 1 (offline_count t s) && loses_global t u s)) && misses_several t s
-
--- it is short for the domain, and lost to it
+-- it is short, and lost to the domain
 abbrev pub is_short_lost_to : Stored → UpgradeNo → StripeNo → Bool
-is_short_lost_to t u s = is_short t u s && is_lost_to t u s
+is_short_lost_to t u s = is_short t s && is_lost_to t u s
 
 -- this is a stripe that is lost to the domain, and none of a lower number is one
 pub record IsFirstLostTo (t : Stored) (u : UpgradeNo) (s : StripeNo) : Type 0 where

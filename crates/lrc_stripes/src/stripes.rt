@@ -10,7 +10,8 @@ ghost use Rattle.lrc_stripes.specs.Tables.{stored_in};
 
 mod queries;
 
-use crate::{HomeDomains, Seat};
+use crate::verdicts::Verdicts;
+use crate::{HomeDomains, Seat, upgrades};
 use lrc_code::{Code, Fault, Fragment, NodeNo, StripeNo, UpgradeNo};
 use lrc_rows::{NodeTable, Row, Rows};
 use lrc_terms::Mode;
@@ -23,19 +24,22 @@ use std::marker::Model;
 pub struct Stripes {
     node_table: NodeTable,
     rows: Rows,
+    /// What is known of upgrades. Contracts do not speak of it.
+    verdicts: Verdicts,
 }
 
 impl Model for Stripes {
     ghost use Rattle.lrc_stripes.specs.Tables.{Table};
     ghost use Rattle.lrc_rows.specs.Listed.{rows_in};
-    ghost use Rattle.lrc_rows.specs.NodeStates.{states_in, AreUpgrading};
+    ghost use Rattle.lrc_rows.specs.NodeStates.{states_in, AreUpgrading, is_on_several_down};
     ghost use Rattle.lrc_rows.specs.Kept.{IsKept};
+    ghost use Rattle.lrc_stripes.specs.UpgradeLosses.{lost_in, AreVerdicts};
 
     ghost Value = { Table };
 
     ghost view = { λ t. record { node_table = t.node_table.list; rows = t.rows.list } };
 
-    ghost invariant = { λ t. record { kept : IsKept (states_in t.node_table) (rows_in t.rows.list); upgrading : AreUpgrading t.node_table.list t.rows.upgrading } };
+    ghost invariant = { λ t. record { kept : IsKept (states_in t.node_table) (rows_in t.rows.list); upgrading : AreUpgrading t.node_table.list t.rows.upgrading; verdicts : AreVerdicts (lost_in (states_in t.node_table) t.rows.list) (is_on_several_down (states_in t.node_table)) t.verdicts } };
 }
 
 #[tactic(auto, unfolding(crate::specs::Tables::stored_in))]
@@ -53,6 +57,7 @@ impl Stripes {
         Ok(Stripes {
             node_table: NodeTable::new(alloc, topology)?,
             rows: Rows::new(alloc)?,
+            verdicts: Verdicts::new(alloc)?,
         })
     }
 
@@ -62,6 +67,7 @@ impl Stripes {
         ensures { stored_in self.new ≡ with_stripe (stored_in self.old) Wide stripe }
     {
         self.rows.add(stripe, Row::new(Code::Wide));
+        self.verdicts.mark(stripe);
     }
 
     /// Adds a stripe of the code `Narrow` without homes.
@@ -70,6 +76,7 @@ impl Stripes {
         ensures { stored_in self.new ≡ with_stripe (stored_in self.old) Narrow stripe }
     {
         self.rows.add(stripe, Row::new(Code::Narrow));
+        self.verdicts.mark(stripe);
     }
 
     /// Adds a stripe of the code with these homes, in rising order of the fragments.
@@ -83,6 +90,7 @@ impl Stripes {
         let losses = self.node_table.enter(code, stripe, seats, &mut domains);
         let row = Row::seated(code, seats, losses, domains);
         self.rows.add(stripe, row);
+        self.verdicts.mark(stripe);
     }
 
     /// Removes a stripe and its homes.
@@ -93,6 +101,7 @@ impl Stripes {
         if let Some(row) = self.rows.get(stripe) {
             self.node_table.leave(stripe, row);
             self.rows.remove(stripe);
+            self.verdicts.mark(stripe);
         }
     }
 
@@ -145,6 +154,7 @@ impl Stripes {
                 .seat(stripe, fragment, home, kept, &mut domains);
             self.rows.set_home(stripe, fragment, home, domains, losses);
             self.node_table.unseat(stripe, former, &self.rows);
+            self.verdicts.mark(stripe);
         }
     }
 
@@ -158,6 +168,7 @@ impl Stripes {
             .follow_draining(&self.node_table, node, mode.is_draining());
         self.node_table.set_state(node, mode, is_down);
         self.rows.follow_up(&self.node_table, node, was_up);
+        self.verdicts.follow_up(&self.node_table, node, was_up);
     }
 
     /// Sets whether the nodes of an upgrade domain are upgrading.
@@ -166,5 +177,12 @@ impl Stripes {
     {
         self.node_table.set_upgrading_in(domain, is_upgrading);
         self.rows.set_upgrading_in(domain, is_upgrading);
+    }
+
+    /// Looks ahead for `would_lose_short`, and keeps what it finds. Nothing else can tell.
+    pub fn settle(&mut self, domain: UpgradeNo)
+        ensures { self.new ≡ self.old }
+    {
+        upgrades::settle(&self.node_table, &self.rows, &mut self.verdicts, domain);
     }
 }

@@ -1,14 +1,12 @@
 //! The stripes with homes on offline nodes.
 
-ghost use Rattle.std.specs.Prelude.{◌≡◌, ◌&&◌, ◌||◌, true, false, get_or, [], IfSome};
+ghost use Rattle.std.specs.Prelude.{◌≡◌, ◌&&◌, ◌||◌, true, false, get_or, []};
 ghost use Rattle.lrc_code.specs.declared.numbers.NodeNo.{NodeNo as AnyNode};
 ghost use Rattle.lrc_code.specs.declared.numbers.StripeNo.{StripeNo as AnyStripe};
 ghost use Rattle.lrc_ranks.specs.Sets.{has};
-ghost use Rattle.lrc_rows.specs.NodeStates.{states_in, is_on_several_offline, is_on_many_offline, AreOffline};
+ghost use Rattle.lrc_rows.specs.NodeStates.{states_in, is_on_several_down};
 
 use crate::node_table::NodeTable;
-use crate::offline_nodes::OfflineNodes;
-use crate::offline_stripes::OfflineStripes;
 use lrc_code::{NodeNo, StripeNo};
 use lrc_ranks::StripeSet;
 
@@ -76,25 +74,9 @@ impl NodeTable {
         }
     }
 
-    /// The offline nodes, if they are few.
-    pub fn few_offline(&self) -> Option<OfflineNodes>
-        ensures { IfSome result (λ o. AreOffline (states_in self.now) o) }
-    {
-        let mut few = OfflineNodes::new();
-        let mut from = 0;
-        while let Some(position) = self.nodes.first_offline_from(from) {
-            if few.is_full() {
-                return None;
-            }
-            few.push(self.nodes.node_at(position).number);
-            from = position + 1;
-        }
-        Some(few)
-    }
-
-    /// Whether at most one node is offline. Then no stripe has homes on several offline nodes.
+    /// Whether at most one node is offline. Then no stripe has homes on several nodes that are not up.
     pub fn are_few_offline(&self) -> bool
-        ensures { result ≡ true → (s : AnyStripe) → is_on_several_offline (states_in self.now) s ≡ false }
+        ensures { result ≡ true → (s : AnyStripe) → is_on_several_down (states_in self.now) s ≡ false }
     {
         match self.nodes.first_offline_from(0) {
             Some(position) => self.nodes.first_offline_from(position + 1).is_none(),
@@ -102,33 +84,31 @@ impl NodeTable {
         }
     }
 
-    /// The stripes with homes on several offline nodes.
-    pub fn stripes_on_several_offline(&self) -> OfflineStripes
-        ensures several { has result.several ≡ is_on_several_offline (states_in self.now) }
-        ensures many { has result.many ≡ is_on_many_offline (states_in self.now) }
+    /// The stripes with homes on several nodes that are not up.
+    pub fn stripes_on_several_down(&self) -> StripeSet
+        ensures { has result ≡ is_on_several_down (states_in self.now) }
     {
-        if self.are_few_offline() {
-            return OfflineStripes::new();
-        }
         let mut any = StripeSet::new();
-        let mut found = OfflineStripes::new();
+        let mut several = StripeSet::new();
         let mut from = 0;
         while let Some(position) = self.nodes.first_offline_from(from) {
-            self.count(self.nodes.node_at(position).number, &mut any, &mut found);
+            if !self.nodes.is_up_at(position) {
+                let number = self.nodes.node_at(position).number;
+                self.count(number, &mut any, &mut several);
+            }
             from = position + 1;
         }
-        found
+        several
     }
 
-    /// Adds the stripes with a home on the node to `any`, and counts those that are there already.
-    fn count(&self, number: NodeNo, any: &mut StripeSet, found: &mut OfflineStripes)
+    /// Adds the stripes with a home on the node to `any`, and those that are there already to `several`.
+    fn count(&self, number: NodeNo, any: &mut StripeSet, several: &mut StripeSet)
         ensures any { has any.new ≡ λ s. has any.old s || (states_in self.now).on number s }
-        ensures several { has found.new.several ≡ λ s. has found.old.several s || (has any.old s && (states_in self.now).on number s) }
-        ensures many { has found.new.many ≡ λ s. has found.old.many s || (has found.old.several s && (states_in self.now).on number s) }
+        ensures several { has several.new ≡ λ s. has several.old s || (has any.old s && (states_in self.now).on number s) }
     {
         if let Some(position) = self.position(number) {
             let set = &self.stripes[position];
-            found.add(any, set);
+            several.insert_common(any, set);
             any.insert_all(set);
         }
     }

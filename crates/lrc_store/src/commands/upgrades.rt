@@ -10,9 +10,29 @@ ghost use Rattle.lrc_store.specs.Stores.{IsOf};
 use crate::store::Store;
 use lrc_answers::Answer;
 use lrc_code::UpgradeNo;
-use lrc_rules::Refusal;
+use lrc_rules::{Command, Refusal};
 
 impl Store {
+    /// Looks ahead, so that the answer to an `upgrade` costs less. The answer stays the same, and so does all else.
+    #[inline(always)] // any other command then makes no call
+    pub fn look_ahead(&mut self, command: &Command)
+        ensures { self.new ≡ self.old }
+    {
+        if let Command::Upgrade(domain) = *command {
+            self.settle(domain);
+        }
+    }
+
+    /// The same for this domain. There is nothing to find where it does not exist, or one is upgrading.
+    #[inline(never)]
+    fn settle(&mut self, domain: UpgradeNo)
+        ensures { self.new ≡ self.old }
+    {
+        if self.upgrading.is_none() && self.topology.has_upgrade_domain(domain) {
+            self.stripes.settle(domain);
+        }
+    }
+
     #[inline(never)]
     pub(crate) fn upgrade_reply(&self, domain: UpgradeNo) -> Answer
         ensures { (st : State) → IsOf st self.now → told result ≡ (upgrade_outcome self.now.topology st domain).0 }

@@ -8,7 +8,7 @@ ghost use Rattle.lrc_code.specs.Codes.{has_fragment};
 ghost use Rattle.lrc_code.specs.Losses.{bits_set};
 ghost use Rattle.lrc_nodes.specs.States.{infos_in, state_at, down_in, online_in};
 ghost use Rattle.lrc_stripes.specs.Tables.{stored_in};
-ghost use Rattle.lrc_stripes.specs.Upgrades.{is_short_lost_to, IsFirstShortLostTo};
+ghost use Rattle.lrc_stripes.specs.Upgrades.{at_rest, is_short_lost_to, IsFirstShortLostTo};
 
 use crate::stripes::Stripes;
 use crate::{AtRisk, HomeDomains, Homes, HomesOn, Level, Seat, Work, upgrades};
@@ -104,16 +104,15 @@ impl Stripes {
         Some(losses.level())
     }
 
-    /// The lowest-numbered short stripe that is recoverable now, and would not be with the nodes of this upgrade domain
-    /// offline; `None` without such a stripe. A stripe is short if several of its fragments are missing, and one needs a lease,
-    /// or it has homes on more than two offline nodes, or on two, and the domain takes a global parity. If the homes of each
-    /// stripe are in different fault domains, and those of each class in different upgrade domains, an upgrade can make no
-    /// other stripe unrecoverable.
+    /// The lowest-numbered short stripe that is recoverable, and would not be with the nodes of this upgrade domain offline, in
+    /// the state in which no domain is upgrading; `None` without such a stripe. A stripe is short if one of its fragments needs
+    /// a lease, or it has homes on several nodes that are not online. If the homes of each stripe are in different fault
+    /// domains, and those of each class in different upgrade domains, an upgrade can make no other stripe unrecoverable.
     pub fn would_lose_short(&self, domain: UpgradeNo) -> Option<StripeNo>
-        ensures found { IfSome result (IsFirstShortLostTo (stored_in self.now) domain) }
-        ensures none { IfNone result ((s : StripeNo) → IsFalse (is_short_lost_to (stored_in self.now) domain s)) }
+        ensures found { IfSome result (IsFirstShortLostTo (at_rest (stored_in self.now)) domain) }
+        ensures none { IfNone result ((s : StripeNo) → IsFalse (is_short_lost_to (at_rest (stored_in self.now)) domain s)) }
     {
-        upgrades::first_short(&self.node_table, &self.rows, domain)
+        upgrades::first_short(&self.node_table, &self.rows, &self.verdicts, domain)
     }
 
     /// The fragments with a home on a node, in rising order of stripe and fragment.

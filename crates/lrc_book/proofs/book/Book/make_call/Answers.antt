@@ -21,12 +21,12 @@ is_reply c =
     let base = base_world b.base in
     let w = world_from nodes base h in
     ap (λ (past : List Entry). (step nodes past w.state c.args.session c.args.command).0) (past-from nodes base h)
-    ∙ sym ((rw c.deref.ensures at c.answer_to-answer.ensures) w.state (base.past ++ h) c.self.invariant.store_is c.self.invariant.counted c.self.invariant.cursor_is)
+    ∙ sym ((rw (c.deref.ensures ∙ c.look_ahead.ensures ∙ c.deref_mut.ensures.value) at c.answer_to-answer.ensures) w.state (base.past ++ h) c.self.invariant.store_is c.self.invariant.counted c.self.invariant.cursor_is)
 
 pub enter-requires-clause-step : goal.enter-requires-clause-step
 enter-requires-clause-step c =
     let reply = is_reply (goal.at.enter-requires-clause-step c).After-answer_to-answer in
-    rw (c.deref_mut.ensures.value, c.new.ensures) reply
+    rw (c.deref_mut-2.ensures.value ∙ c.look_ahead.ensures ∙ c.deref_mut.ensures.value, c.new.ensures) reply
 
 pub answer_to-answer-requires-clause-few : goal.answer_to-answer-requires-clause-few
 answer_to-answer-requires-clause-few c =
@@ -41,12 +41,12 @@ enter-requires-clause-few c =
 pub enter-requires-clause-early : goal.enter-requires-clause-early
 enter-requires-clause-early c =
     let b = c.self.inside in
-    rw c.deref_mut.ensures.value
+    rw (c.deref_mut-2.ensures.value ∙ c.look_ahead.ensures ∙ c.deref_mut.ensures.value)
     (clock-early b.store.value b.grants b.repair_cursor b.limit (base_world b.base) b.history.items c.self.invariant (rw (← c.self.view_is) at c.requires.room))
 
 pub invariant_of-self : goal.invariant_of-self
 invariant_of-self c =
-    (rw c.deref_mut.ensures.value at c.enter.ensures.kept) c.self.inside.limit c.self.invariant (rw (← c.self.view_is) at c.requires.room)
+    (rw (c.deref_mut-2.ensures.value ∙ c.look_ahead.ensures ∙ c.deref_mut.ensures.value) at c.enter.ensures.kept) c.self.inside.limit c.self.invariant (rw (← c.self.view_is) at c.requires.room)
 
 pub returns-clause-history : goal.returns-clause-history
 returns-clause-history c =

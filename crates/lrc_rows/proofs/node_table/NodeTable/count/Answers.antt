@@ -15,18 +15,10 @@ returns-in-Some-clause-any c =
 pub returns-in-Some-clause-several : goal.returns-in-Some-clause-several
 returns-in-Some-clause-several c =
     rw (← set-same c.self.inside.nodes c.self.inside.stripes.items c.args.self.now c.self.view_is c.args.number c.in-Some.position c.in-Some.ensures c.index-set.result.now c.index-set.result.now
-    c.index-set.ensures) c.add.ensures.several
-
-pub returns-in-Some-clause-many : goal.returns-in-Some-clause-many
-returns-in-Some-clause-many c =
-    rw (← set-same c.self.inside.nodes c.self.inside.stripes.items c.args.self.now c.self.view_is c.args.number c.in-Some.position c.in-Some.ensures c.index-set.result.now c.index-set.result.now
-    c.index-set.ensures) c.add.ensures.many
+    c.index-set.ensures) c.insert_common.ensures
 
 pub returns-in_default-clause-any : goal.returns-in_default-clause-any
 returns-in_default-clause-any c = joined-none c.args.self.now.list c.args.self.now.stripes c.args.self.now refl c.args.number c.in_default.ensures _
 
 pub returns-in_default-clause-several : goal.returns-in_default-clause-several
 returns-in_default-clause-several c = counted-none c.args.self.now.list c.args.self.now.stripes c.args.self.now refl c.args.number c.in_default.ensures _ _
-
-pub returns-in_default-clause-many : goal.returns-in_default-clause-many
-returns-in_default-clause-many c = counted-none c.args.self.now.list c.args.self.now.stripes c.args.self.now refl c.args.number c.in_default.ensures _ _

@@ -1,4 +1,4 @@
-use Rattle.std.proofs.Common.{◌≡◌, false, IsTrue, List, Option, None, get_or, is_some, ap, subst, sym, ◌∙◌}
+use Rattle.std.proofs.Common.{Some, ◌≡◌, false, IsTrue, List, Option, None, get_or, is_some, ap, subst, sym, ◌∙◌}
 use Rattle.std.specs.List.{All}
 use Rattle.lrc_topology.specs.Nodes.{node_at}
 use Rattle.lrc_topology.specs.declared.seat.Seat.{Seat}
@@ -15,6 +15,9 @@ use Rattle.lrc_stripes.specs.Tables.{stored_in}
 use Rattle.lrc_rows.specs.Listed.{rows_in}
 use Rattle.lrc_stripes.proofs.KeptLemmas.{kept-enter, upgrading-stays}
 use Rattle.lrc_stripes.proofs.StoredLemmas.{stored_by, stored-seated, slot-known}
+use Rattle.lrc_rows.specs.NodeStates.{is_on_several_down}
+use Rattle.lrc_stripes.specs.UpgradeLosses.{lost_in}
+use Rattle.lrc_stripes.proofs.UpgradeLemmas.{others-same, put-others}
 use Rattle.lrc_stripes.proofs.stripes.Stripes.add_with_homes.Goals as goal
 
 pub enter-losses-requires : goal.enter-losses-requires
@@ -40,6 +43,10 @@ invariant_of-self c =
       kept = subst (λ (y : NodeStates). IsKept y (rows_in c.add.new.self.list)) (sym c.enter-losses.ensures.on)
           (kept-enter z (rows_in c.self.inside.rows.list) c.self.invariant.kept c.args.stripe homes c.seated-row.result (rows_in c.add.new.self.list) absent c.seated-row.ensures.homes are at c.add.ensures.rows);
       upgrading = upgrading-stays c.self.inside.node_table c.enter-losses.new.self c.enter-losses.ensures.on c.self.inside.rows.upgrading c.add.new.self.upgrading c.add.ensures.upgrading c.self.invariant.upgrading;
+      verdicts =
+          c.mark.ensures (lost_in z c.self.inside.rows.list) (lost_in (states_in c.enter-losses.new.self) c.add.new.self.list) (is_on_several_down z) (is_on_several_down (states_in c.enter-losses.new.self)) c.self.invariant.verdicts
+          (others-same z (states_in c.enter-losses.new.self) c.args.stripe c.self.inside.rows.list c.add.new.self.list (ap (λ (y : NodeStates). y.nodes) c.enter-losses.ensures.on) (ap (λ (y : NodeStates). y.up) c.enter-losses.ensures.on)
+          (put-others c.args.stripe (Some c.seated-row.result) (rows_in c.self.inside.rows.list) (rows_in c.add.new.self.list) c.add.ensures.rows));
     }
 
 pub returns : goal.returns

@@ -8,7 +8,10 @@ use Rattle.lrc_rows.specs.Listed.{rows_in}
 use Rattle.lrc_rows.proofs.NodeStateLemmas.{known-state}
 use Rattle.lrc_rows.proofs.RenewLemmas.{kept-state, same-then}
 use Rattle.lrc_rows.proofs.UpgradingLemmas.{upgrading-state}
+use Rattle.lrc_rows.specs.NodeStates.{is_on_several_down}
+use Rattle.lrc_stripes.specs.UpgradeLosses.{lost_in}
 use Rattle.lrc_stripes.proofs.StoredLemmas.{stored-set}
+use Rattle.lrc_stripes.proofs.UpgradeLemmas.{like-state, up-same, off-same, all-same, several-same}
 use Rattle.lrc_stripes.proofs.stripes.Stripes.set_state.Goals as goal
 
 pub follow_draining-requires : goal.follow_draining-requires
@@ -30,11 +33,22 @@ invariant_of-self c =
     let there : IsSome (state_at s.node_table.list n) = known-state s.node_table.list s.node_table.stripes s.node_table refl n known in
     let drained = kept-state s.node_table n c.args.mode c.args.is_down c.is_up-was_up.result c.is_draining.result (rows_in c.follow_draining.new.self.list) there c.is_up-was_up.ensures c.is_draining.ensures
     (record { losses = first.kept.losses; domains = first.kept.domains; listed = first.kept.listed }) in
+    let kept = second.kept (subst (λ (t : NodeLists). IsKept (record (states_in t) { up = λ m. if same_node n m then c.is_up-was_up.result else (states_in t).up m }) (rows_in c.follow_draining.new.self.list)) (sym is) drained) in
+    let z = states_in s.node_table in
+    let y = states_in c.set_state.new.self in
+    let like = like-state s.node_table c.set_state.new.self n c.args.mode c.args.is_down is in
+    let same = same-then _ _ _ first.same second.same in
     record {
-      kept = second.kept (subst (λ (t : NodeLists). IsKept (record (states_in t) { up = λ m. if same_node n m then c.is_up-was_up.result else (states_in t).up m }) (rows_in c.follow_draining.new.self.list)) (sym is) drained);
+      kept = kept;
       upgrading = subst (λ (t : NodeLists). AreUpgrading t.list c.follow_up.new.self.upgrading) (sym is)
           (subst (AreUpgrading (with_state s.node_table.list n c.args.mode c.args.is_down)) (sym (second.upgrading ∙ first.upgrading))
           (upgrading-state s.node_table.list n c.args.mode c.args.is_down s.rows.upgrading c.self.invariant.upgrading));
+      verdicts =
+          c.follow_up-2.ensures (lost_in z s.rows.list) (lost_in y c.follow_up.new.self.list) (is_on_several_down z) (is_on_several_down y) c.self.invariant.verdicts
+          (λ u t off. off-same z y n like.nodes like.others s.rows.list c.follow_up.new.self.list same u t (sym (kept.listed n t) ∙ off))
+          (λ stays.
+          let up = up-same z y n like.others (stays ∙ c.is_up-was_up.ensures) in
+          (all-same z y like.nodes up s.rows.list c.follow_up.new.self.list same, several-same z y like.nodes up s.rows.list c.follow_up.new.self.list same like.on));
     }
 
 pub returns : goal.returns
