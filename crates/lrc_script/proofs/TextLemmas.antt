@@ -28,7 +28,7 @@ joined_lines-more : (line : List ℕ) (lines : List (List ℕ)) → 0 < length l
 joined_lines-more line [] some = absurd (omega (arith, some))
 joined_lines-more line (next ∷ lines) some = refl
 
-joined_lines-behind : (front back : List (List ℕ)) → 0 < length back → joined_lines (front ++ back) ≡ ended_lines front ++ joined_lines back
+pub joined_lines-behind : (front back : List (List ℕ)) → 0 < length back → joined_lines (front ++ back) ≡ ended_lines front ++ joined_lines back
 joined_lines-behind [] back some = refl
 joined_lines-behind (line ∷ front) back some =
     joined_lines-more line (front ++ back) (omega (arith, some, length-append front back)) ∙ ap (λ t. line ++ 10 ∷ t) (joined_lines-behind front back some)

@@ -4,7 +4,7 @@ ghost use Rattle.lrc_script.specs.Cuts.{IsPart};
 ghost use Rattle.lrc_script.specs.declared.bundle.BundleError.TheVariants as errors;
 
 use crate::cut::cut_line;
-use memchr::memchr;
+use memchr::{memchr, memchr_iter};
 use std::alloc::{AllocError, AllocFailed, Global};
 use thiserror::Error;
 
@@ -110,35 +110,28 @@ struct Part<'a> {
 fn cut_part(text: &[u8]) -> Part<'_>
     ensures { IsPart text.now result.text.now result.lines result.behind }
 {
-    // Most texts have no such line, and a search for its first byte shows that fastest.
-    if memchr(b'%', text).is_none() {
-        return Part {
-            text,
-            lines: 0,
-            behind: None,
-        };
-    }
-    let mut rest = text;
-    let mut lines = 0;
-    loop {
-        let (line, behind) = cut_line(rest);
-        if line == b"%%".as_slice() {
-            let text = &text[..text.len() - rest.len()];
-            let behind = Some(behind.unwrap_or(&[]));
-            return Part {
-                text,
-                lines,
-                behind,
-            };
+    // Few lines have a percent sign, and a search for one passes over all others at once.
+    let mut from = 0;
+    while let Some(found) = memchr(b'%', &text[from..]) {
+        let at = from + found;
+        if at == 0 || text[at - 1] == b'\n' {
+            let (line, behind) = cut_line(&text[at..]);
+            if line == b"%%".as_slice() {
+                let text = &text[..at];
+                let lines = memchr_iter(b'\n', text).count() as u64;
+                let behind = Some(behind.unwrap_or(&[]));
+                return Part {
+                    text,
+                    lines,
+                    behind,
+                };
+            }
         }
-        let Some(next) = behind else {
-            return Part {
-                text,
-                lines,
-                behind: None,
-            };
-        };
-        rest = next;
-        lines += 1;
+        from = at + 1;
+    }
+    Part {
+        text,
+        lines: 0,
+        behind: None,
     }
 }

@@ -1,9 +1,10 @@
-use Rattle.std.proofs.Common.{length}
-use Rattle.lrc_script.proofs.PartLemmas.{IsPassed}
+use Rattle.std.proofs.Common.{◌≤◌, ◌-◌, length}
+use Rattle.memchr.specs.Find.{Nowhere}
+use Rattle.lrc_script.proofs.PartLemmas.{PartsAt}
 use Rattle.lrc_script.proofs.bundle.cut_part.Given as goal
 
-abbrev pub invariant-loop-rest : goal.invariant-loop-rest
-invariant-loop-rest l = IsPassed l.text l.rest l.lines
+abbrev pub invariant-loop-found : goal.invariant-loop-found
+invariant-loop-found l = record { within : l.from ≤ length l.text; nowhere : Nowhere (PartsAt l.text) 0 l.from }
 
-abbrev pub decreases-loop-rest : goal.decreases-loop-rest
-decreases-loop-rest l = length l.rest
+abbrev pub decreases-loop-found : goal.decreases-loop-found
+decreases-loop-found l = length l.text - l.from
