@@ -64,7 +64,7 @@ fn expect_full(rt: &impl Abort, book: &mut Book, command: Command) {
 
 /// The history is these calls of the first session, with their replies.
 fn expect_history(rt: &impl Abort, book: &Book, rows: &[Row]) {
-    assert_eq!(rt; book.history().len(), rows.len());
+    assert!(rt; book.history().len() == rows.len());
     for (record, (command, reply)) in book.history().iter().zip(rows) {
         let entry = Entry {
             session: FIRST,

@@ -1,25 +1,9 @@
 //! The texts of errors.
 
+use crate::expect::{expect_number, expect_text};
 use lrc_code::{Fault, Fragment, NodeNo};
 use lrc_coder::CodingError;
 use lrc_topology::TopologyError;
-use std::process::Abort;
-
-fn expect_error(rt: &(impl AllocGlobal + Abort), error: TopologyError, want: &str) {
-    let text = format!(in rt.alloc(); "{error}").expect(rt, "memory");
-    assert!(rt; text.as_str() == want, "{text}");
-}
-
-fn expect_coding_error(rt: &(impl AllocGlobal + Abort), error: CodingError, want: &str) {
-    let text = format!(in rt.alloc(); "{error}").expect(rt, "memory");
-    assert!(rt; text.as_str() == want, "{text}");
-}
-
-fn expect_fault(rt: &(impl AllocGlobal + Abort), fault: Fault, number: u8, want: &str) {
-    let text = format!(in rt.alloc(); "{fault}").expect(rt, "memory");
-    assert!(rt; text.as_str() == want, "{text}");
-    assert!(rt; fault as u8 == number, "{text}");
-}
 
 #[test]
 fn errors_say_what_to_mend(rt: HostRuntime) {
@@ -51,14 +35,31 @@ fn errors_say_what_to_mend(rt: HostRuntime) {
         (TopologyError::OutOfMemory, "out of memory"),
     ];
     for (error, want) in rows {
-        expect_error(&rt, error, want);
+        expect_text(&rt, &error, want);
     }
-    let want = "the buffers are not as many as the fragments of the code";
-    expect_coding_error(&rt, CodingError::Count, want);
-    let want = "the code has no fragment 13";
-    expect_coding_error(&rt, CodingError::NoFragment(Fragment { value: 13 }), want);
-    let want = "the buffer of fragment 13 has another length";
-    expect_coding_error(&rt, CodingError::Length(Fragment { value: 13 }), want);
-    expect_fault(&rt, Fault::OutOfMemory, 1, "out of memory");
-    expect_fault(&rt, Fault::HistoryFull, 2, "the history is full");
+    let rows = [
+        (
+            CodingError::Count,
+            "the buffers are not as many as the fragments of the code",
+        ),
+        (
+            CodingError::NoFragment(Fragment { value: 13 }),
+            "the code has no fragment 13",
+        ),
+        (
+            CodingError::Length(Fragment { value: 13 }),
+            "the buffer of fragment 13 has another length",
+        ),
+    ];
+    for (error, want) in rows {
+        expect_text(&rt, &error, want);
+    }
+    let rows = [
+        (Fault::OutOfMemory, 1, "out of memory"),
+        (Fault::HistoryFull, 2, "the history is full"),
+    ];
+    for (fault, number, want) in rows {
+        expect_text(&rt, &fault, want);
+        expect_number(&rt, fault as u64, number);
+    }
 }

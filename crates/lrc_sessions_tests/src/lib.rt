@@ -8,6 +8,8 @@ mod code;
 #[cfg(test)]
 mod errors;
 #[cfg(test)]
+mod expect;
+#[cfg(test)]
 mod runs;
 #[cfg(test)]
 mod sessions;

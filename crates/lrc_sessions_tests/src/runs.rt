@@ -10,6 +10,7 @@ mod limits;
 mod mixed;
 mod replay;
 
+use crate::expect::expect_number;
 use lrc_book::{Command, Record};
 use lrc_code::{Fragment, NodeNo, SessionNo, StripeNo};
 use lrc_samples::twenty_nodes;
@@ -150,7 +151,7 @@ fn run_all<N: Naming + Send + Sync, R: Threads + Wait + Abort + Sync, G: Gate + 
     let Ok((manager, sessions)) = Manager::<N>::open(alloc, rt, parts) else {
         panic!(rt; "a manager and its sessions")
     };
-    assert_eq!(rt; sessions.len(), scripts.len());
+    assert!(rt; sessions.len() == scripts.len());
     let (sessions, tracks) = run_sessions(rt, alloc, &manager, sessions, scripts, gate);
     let Ok(tracks) = tracks else {
         panic!(rt; "room for a run")
@@ -201,7 +202,7 @@ fn expect_track(rt: &impl Abort, track: &Track, stopped: Option<Stop>, calls: u6
     for batch in track.batches.as_slice() {
         made = made.saturating_add(batch.count);
     }
-    assert_eq!(rt; made, calls);
+    expect_number(rt, made, calls);
 }
 
 /// Expects the batches of a script.
@@ -242,6 +243,6 @@ fn expect_made(rt: &impl Abort, ran: &Ran, made: &[(SessionNo, u64)]) {
     for (_, calls) in made {
         entries = entries.saturating_add(*calls);
     }
-    assert_eq!(rt; ran.closing.book.history().len() as u64, entries);
+    expect_number(rt, ran.closing.book.history().len() as u64, entries);
     assert!(rt; ran.closing.made.as_slice() == made);
 }

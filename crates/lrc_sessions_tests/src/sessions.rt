@@ -11,6 +11,7 @@ mod looks;
 mod managers;
 mod scenes;
 
+use crate::expect::expect_number;
 use lrc_book::Command;
 use lrc_code::{Fault, SessionNo, StripeNo};
 use lrc_sessions::{Batch, Closing, FinishError, Manager, Naming, Parts, Receipt, Session};
@@ -87,7 +88,7 @@ fn expect_made(rt: &impl Abort, closing: &Closing, made: &[(SessionNo, u64)]) {
     for (_, calls) in made {
         entries = entries.saturating_add(*calls);
     }
-    assert_eq!(rt; closing.book.history().len() as u64, entries);
+    expect_number(rt, closing.book.history().len() as u64, entries);
     assert!(rt; closing.made.as_slice() == made);
 }
 
@@ -140,8 +141,8 @@ fn expect_fronts<N: Naming>(
     other: &Session<N>,
     counts: (u64, u64),
 ) {
-    assert_eq!(rt; one.front(), counts.0);
-    assert_eq!(rt; other.front(), counts.1);
+    expect_number(rt, one.front(), counts.0);
+    expect_number(rt, other.front(), counts.1);
 }
 
 /// Lets two sessions meet, and expects that each has then seen `count` entries.
@@ -163,6 +164,6 @@ fn put<N: Naming>(rt: &impl Abort, sessions: &mut Vec<Session<N>>, session: Sess
 
 /// Expects sessions 1 and 2.
 fn expect_numbers<N: Naming>(rt: &impl Abort, one: &Session<N>, other: &Session<N>) {
-    assert_eq!(rt; one.number().get(), 1);
-    assert_eq!(rt; other.number().get(), 2);
+    expect_number(rt, u64::from(one.number().get()), 1);
+    expect_number(rt, u64::from(other.number().get()), 2);
 }

@@ -5,6 +5,7 @@ ghost use Rattle.std.specs.Prelude.{⊤};
 use super::{
     LIMIT, Ran, S1, S2, batch, close, expect_batches, expect_made, expect_track, run_rows,
 };
+use crate::expect::expect_number;
 use lrc_book::{Command, Record};
 use lrc_code::{Fault, SessionNo};
 use lrc_sessions::{Batch, Gate, GateError, OpenGate, Stop};
@@ -29,7 +30,7 @@ fn two_scripts_run_in_batches_of_256_calls(rt: HostRuntime) -> Result<(), Fail> 
 }
 
 fn expect_two(rt: &impl Abort, ran: &Ran) {
-    assert_eq!(rt; ran.tracks.len(), 2);
+    assert!(rt; ran.tracks.len() == 2);
     expect_track(rt, &ran.tracks[0], None, LONG as u64);
     expect_track(rt, &ran.tracks[1], None, SHORT as u64);
     let long = ran.tracks[0].batches.as_slice();
@@ -45,9 +46,9 @@ fn expect_two(rt: &impl Abort, ran: &Ran) {
 
 /// Expects the numbers of calls of batches.
 fn expect_counts(rt: &impl Abort, batches: &[Batch], wanted: &[u64]) {
-    assert_eq!(rt; batches.len(), wanted.len());
+    assert!(rt; batches.len() == wanted.len());
     for (i, count) in wanted.iter().enumerate() {
-        assert_eq!(rt; batches[i].count, *count);
+        expect_number(rt, batches[i].count, *count);
     }
 }
 
@@ -176,8 +177,8 @@ fn a_history_gets_full_within_a_batch(rt: HostRuntime) -> Result<(), Fail> {
 
 /// Expects why the only script was stopped, its batches, and that its session has seen all of its calls.
 fn expect_ended(rt: &impl Abort, ran: &Ran, stopped: Stop, batches: &[Batch], calls: u64) {
-    assert_eq!(rt; ran.tracks.len(), 1);
-    assert_eq!(rt; ran.front, calls);
+    assert!(rt; ran.tracks.len() == 1);
+    expect_number(rt, ran.front, calls);
     expect_track(rt, &ran.tracks[0], Some(stopped), calls);
     expect_batches(rt, &ran.tracks[0], batches);
     expect_made(rt, ran, &[(S1, calls)]);
@@ -185,6 +186,6 @@ fn expect_ended(rt: &impl Abort, ran: &Ran, stopped: Stop, batches: &[Batch], ca
 
 /// Expects the sums of the numbers of the calls that a gate was asked for and notified of.
 fn expect_told(rt: &impl Abort, gate: &Early, asked: u64, notified: u64) {
-    assert_eq!(rt; gate.asked.load(Ordering::SeqCst), asked);
-    assert_eq!(rt; gate.notified.load(Ordering::SeqCst), notified);
+    expect_number(rt, gate.asked.load(Ordering::SeqCst), asked);
+    expect_number(rt, gate.notified.load(Ordering::SeqCst), notified);
 }

@@ -3,6 +3,7 @@
 ghost use Rattle.std.specs.Prelude.{⊤};
 
 use super::{LIMIT, Ran, TURNS, close, expect_track, run_rows};
+use crate::expect::expect_number;
 use lrc_book::Command;
 use lrc_code::{Fault, SessionNo};
 use lrc_sessions::{Gate, GateError, Stop};
@@ -60,7 +61,7 @@ fn eight_scripts_run_on_eight_threads(rt: HostRuntime) -> Result<(), Fail> {
 }
 
 fn expect_whole(rt: &impl Abort, ran: &Ran) {
-    assert_eq!(rt; ran.tracks.len(), 8);
+    assert!(rt; ran.tracks.len() == 8);
     for track in ran.tracks.iter() {
         expect_track(rt, track, None, 1);
     }
@@ -113,9 +114,9 @@ fn a_gate_is_notified_of_calls_that_were_made(rt: HostRuntime) -> Result<(), Fai
 }
 
 fn expect_notified(rt: &impl Abort, gate: &Counting, ran: &Ran) {
-    assert_eq!(rt; ran.tracks.len(), 1);
+    assert!(rt; ran.tracks.len() == 1);
     let full = Some(Stop::Fault(Fault::HistoryFull));
     expect_track(rt, &ran.tracks[0], full, 2);
-    assert_eq!(rt; gate.asked.load(Ordering::SeqCst), 1 + 2 + 3);
-    assert_eq!(rt; gate.notified.load(Ordering::SeqCst), 1 + 2);
+    expect_number(rt, gate.asked.load(Ordering::SeqCst), 1 + 2 + 3);
+    expect_number(rt, gate.notified.load(Ordering::SeqCst), 1 + 2);
 }

@@ -3,6 +3,7 @@
 ghost use Rattle.std.specs.Prelude.{⊤};
 
 use super::{LIMIT, ONE, Ran, S1, S2, TWO, close, expect_made, expect_track, run_rows, wait_for};
+use crate::expect::expect_number;
 use lrc_book::Command;
 use lrc_code::SessionNo;
 use lrc_sessions::{Gate, GateError, Stop};
@@ -88,8 +89,8 @@ fn expect_meeting(rt: &impl Abort, gate: &Meeting, ran: &Ran) {
         expect_track(rt, track, None, 2);
     }
     assert!(rt; !gate.gave_up.load(Ordering::SeqCst));
-    assert_eq!(rt; gate.asked.load(Ordering::SeqCst), 4);
-    assert_eq!(rt; gate.notified.load(Ordering::SeqCst), 4);
+    expect_number(rt, gate.asked.load(Ordering::SeqCst), 4);
+    expect_number(rt, gate.notified.load(Ordering::SeqCst), 4);
     expect_made(rt, ran, &[(S1, 2), (S2, 2)]);
 }
 
@@ -164,10 +165,10 @@ fn a_gate_stops_a_script_before_its_call(rt: HostRuntime) -> Result<(), Fail> {
 
 /// Expects that the first script was stopped after its first call, and the second by nothing.
 fn expect_stopped(rt: &impl Abort, gate: &Closed, ran: &Ran) {
-    assert_eq!(rt; ran.tracks.len(), 2);
+    assert!(rt; ran.tracks.len() == 2);
     expect_track(rt, &ran.tracks[0], Some(Stop::Gate), 1);
     expect_track(rt, &ran.tracks[1], None, 3);
-    assert_eq!(rt; gate.asked.load(Ordering::SeqCst), 111_011);
-    assert_eq!(rt; gate.notified.load(Ordering::SeqCst), 111_001);
+    expect_number(rt, gate.asked.load(Ordering::SeqCst), 111_011);
+    expect_number(rt, gate.notified.load(Ordering::SeqCst), 111_001);
     expect_made(rt, ran, &[(S1, 1), (S2, 3)]);
 }

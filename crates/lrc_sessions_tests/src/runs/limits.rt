@@ -3,6 +3,7 @@
 use super::{
     ONE_BY_ONE, Ran, S1, batch, close, expect_batches, expect_made, expect_track, run_rows,
 };
+use crate::expect::expect_number;
 use lrc_book::{Command, Record, Reply};
 use lrc_code::Fault;
 use lrc_sessions::Stop;
@@ -21,8 +22,8 @@ fn a_full_history_stops_a_script(rt: HostRuntime) -> Result<(), Fail> {
 
 /// Expects that the script was stopped after its third call, and that its session has seen all three.
 fn expect_stopped(rt: &impl Abort, ran: &Ran) {
-    assert_eq!(rt; ran.tracks.len(), 1);
-    assert_eq!(rt; ran.front, 3);
+    assert!(rt; ran.tracks.len() == 1);
+    expect_number(rt, ran.front, 3);
     let full = Some(Stop::Fault(Fault::HistoryFull));
     expect_track(rt, &ran.tracks[0], full, 3);
     expect_batches(rt, &ran.tracks[0], &[batch(1, 1), batch(2, 1), batch(3, 1)]);

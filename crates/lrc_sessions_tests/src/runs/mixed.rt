@@ -2,6 +2,7 @@
 
 use super::replay::replay;
 use super::{Batched, LIMIT, Ran, close, entry_at, expect_track, run};
+use crate::expect::expect_number;
 use lrc_book::{Command, Record};
 use lrc_code::{Fragment, NodeNo, SessionNo, StripeNo, UpgradeNo};
 use lrc_sessions::{Batch, Track};
@@ -138,7 +139,7 @@ fn expect_script(
     script: &[Command],
     track: &Track,
 ) {
-    assert_eq!(rt; made.1, CALLS as u64);
+    expect_number(rt, made.1, CALLS as u64);
     expect_track(rt, track, None, CALLS as u64);
     expect_in_order(rt, history, made.0, script, track.batches.as_slice());
 }
@@ -162,7 +163,7 @@ fn expect_in_order(
             made += 1;
         }
     }
-    assert_eq!(rt; made, script.len());
+    assert!(rt; made == script.len());
 }
 
 /// Expects a command of a session at a place of the history.

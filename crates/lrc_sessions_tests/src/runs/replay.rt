@@ -1,5 +1,6 @@
 //! A history that is replayed by one thread.
 
+use crate::expect::expect_number;
 use lrc_book::{Book, Command, Level, Mode, Record, Reply, Seat};
 use lrc_code::{Code, NodeNo, SessionNo, StripeNo};
 use lrc_samples::twenty_nodes;
@@ -32,27 +33,27 @@ fn reply(book: &mut Book, session: SessionNo, command: Command) -> Option<Reply>
 
 /// Expects the same clock, stripes and nodes of both books.
 fn expect_alike(rt: &impl Abort, book: &Book, fresh: &Book) {
-    assert_eq!(rt; clock(fresh), clock(book));
+    expect_number(rt, u64::from(clock(fresh)), u64::from(clock(book)));
     for number in 0..6 {
         let stripe = StripeNo { value: number };
-        assert!(rt;
-            code(fresh, stripe) == code(book, stripe),
-            "of stripe {number}"
-        );
-        assert!(rt;
-            homes(fresh, stripe) == homes(book, stripe),
-            "of stripe {number}"
-        );
-        assert!(rt;
-            level(fresh, stripe) == level(book, stripe),
-            "of stripe {number}"
-        );
+        assert!(rt; is_stripe_alike(book, fresh, stripe), "stripe {number}");
     }
     for value in 0..21 {
         let node = NodeNo { value };
-        assert_eq!(rt; load(fresh, node), load(book, node), "on node {value}");
-        assert!(rt; mode(fresh, node) == mode(book, node), "of node {value}");
+        assert!(rt; is_node_alike(book, fresh, node), "node {value}");
     }
+}
+
+/// Returns whether both books have the same code, homes and level of a stripe.
+fn is_stripe_alike(book: &Book, fresh: &Book, stripe: StripeNo) -> bool {
+    code(fresh, stripe) == code(book, stripe)
+        && homes(fresh, stripe) == homes(book, stripe)
+        && level(fresh, stripe) == level(book, stripe)
+}
+
+/// Returns whether both books have the same load and mode of a node.
+fn is_node_alike(book: &Book, fresh: &Book, node: NodeNo) -> bool {
+    load(fresh, node) == load(book, node) && mode(fresh, node) == mode(book, node)
 }
 
 fn clock(book: &Book) -> u32 {

@@ -64,7 +64,7 @@ pub(super) fn expect_out<N: Naming, R: Wait + Abort>(
     match manager.finish(rt, sessions) {
         Ok(_) => panic!(rt; "a session is out"),
         Err(FinishError::SessionsOut(manager, sessions)) => {
-            assert_eq!(rt; sessions.len(), count);
+            assert!(rt; sessions.len() == count);
             (manager, sessions)
         }
     }
