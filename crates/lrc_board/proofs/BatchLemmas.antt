@@ -1,6 +1,6 @@
 -- Commands that are made behind a history.
 use Rattle.std.proofs.Common.{◌≡◌, ℕ, ◌+◌, ◌<◌, ◌≤◌, All, List, [], ◌∷◌, ◌++◌, length, get_or, take, map, refl, sym, ap, ◌∙◌, subst, arith, append_assoc, append-nil, lit≤, lit<}
-use Rattle.std.proofs.lemmas.List.{map-append, length-append, take_more}
+use Rattle.std.proofs.lemmas.List.{map-append, length-append, take_more, take_at}
 use Rattle.std.proofs.lemmas.List.Elements.{All-push}
 use Rattle.lrc_code.specs.declared.numbers.SessionNo.{SessionNo}
 use Rattle.lrc_rules.specs.declared.command.Command.{Command}
@@ -75,6 +75,10 @@ few_nodes _ = lit≤ tt
 few_by : (c : Command) (r : Reply) → (length (changes_by c r).stripes ≤ 1) × (length (changes_by c r).nodes ≤ 1)
 few_by c (Refused why) = (lit≤ tt, lit≤ tt)
 few_by c r = (few_stripes c, few_nodes c)
+
+-- the entries before a batch are the first ones after it
+pub taken_before : (before after : List Entry) (session : SessionNo) (commands : List Command) → AreMadeBehind before session commands after → take (length before) after ≡ before
+taken_before before after session commands made = ap (take (length before)) made.behind ∙ take_at before made.added (length before) refl
 
 -- no list is longer than the commands so far
 pub one_more_few : (a : ChangesView) (c : Command) (r : Reply) (n : ℕ) → length a.stripes ≤ n → length a.nodes ≤ n

@@ -1,6 +1,7 @@
 ghost use Rattle.std.specs.Prelude.{◌≡◌, ◌<◌, ◌≤◌, ◌+◌, ◌++◌, length, vec_len, vec_capacity, IfOk};
+ghost use Rattle.std.specs.Option.{option_map_or};
 ghost use Rattle.lrc_answers.specs.Answers.{lent};
-ghost use Rattle.lrc_board.specs.Refreshed.{no_changes, both_changes, changes_by, stripes_changed_by, nodes_changed_by, are_loads_changed_by};
+ghost use Rattle.lrc_board.specs.Refreshed.{no_changes, both_changes, changes_by, stripes_changed_by, nodes_changed_by};
 
 use crate::batch::BATCH_LIMIT;
 use lrc_book::{Command, Record, ReplyRef};
@@ -62,13 +63,13 @@ impl Changes {
         requires nodes { length self.old.nodes < 256 }
         ensures { self.new ≡ both_changes self.old (changes_by step.now.command step.now.reply) }
     {
-        let (command, reply) = (step.command(), step.reply_ref());
-        if let ReplyRef::Refused(_) = reply {
+        let command = step.command();
+        let Some(loads) = loads_changed_by(command, step.reply_ref()) else {
             return;
-        }
+        };
         add_stripes(&mut self.stripes, command);
         add_nodes(&mut self.nodes, command);
-        self.loads = self.loads || are_loads_changed_by(command, &reply);
+        self.loads = self.loads || loads;
     }
 
     /// Removes all changes.
@@ -88,10 +89,10 @@ fn add_stripes(stripes: &mut Vec<ChangedStripes>, command: Command)
     ensures room { vec_capacity stripes.new ≡ vec_capacity stripes.old }
 {
     match command {
-        Command::Place(stripe) => stripes.push_reserved(ChangedStripes::Stripe(stripe)),
-        Command::Place6(stripe) => stripes.push_reserved(ChangedStripes::Stripe(stripe)),
-        Command::Drop(stripe) => stripes.push_reserved(ChangedStripes::Stripe(stripe)),
-        Command::Done(stripe, _, _) => stripes.push_reserved(ChangedStripes::Stripe(stripe)),
+        Command::Place(stripe)
+        | Command::Place6(stripe)
+        | Command::Drop(stripe)
+        | Command::Done(stripe, _, _) => stripes.push_reserved(ChangedStripes::Stripe(stripe)),
         Command::Fail(node) => stripes.push_reserved(ChangedStripes::AllOn(node)),
         _ => (),
     }
@@ -104,24 +105,27 @@ fn add_nodes(nodes: &mut Vec<ChangedNodes>, command: Command)
     ensures room { vec_capacity nodes.new ≡ vec_capacity nodes.old }
 {
     match command {
-        Command::Fail(node) => nodes.push_reserved(ChangedNodes::Node(node)),
-        Command::Down(node) => nodes.push_reserved(ChangedNodes::Node(node)),
-        Command::Up(node) => nodes.push_reserved(ChangedNodes::Node(node)),
-        Command::Retire(node) => nodes.push_reserved(ChangedNodes::Node(node)),
-        Command::Join(node) => nodes.push_reserved(ChangedNodes::Node(node)),
-        Command::Upgrade(domain) => nodes.push_reserved(ChangedNodes::AllIn(domain)),
-        Command::Upgraded(domain) => nodes.push_reserved(ChangedNodes::AllIn(domain)),
+        Command::Fail(node)
+        | Command::Down(node)
+        | Command::Up(node)
+        | Command::Retire(node)
+        | Command::Join(node) => nodes.push_reserved(ChangedNodes::Node(node)),
+        Command::Upgrade(domain) | Command::Upgraded(domain) => {
+            nodes.push_reserved(ChangedNodes::AllIn(domain))
+        }
         _ => (),
     }
 }
 
-/// Reports whether a command with this reply may have changed the load of any node.
-fn are_loads_changed_by(command: Command, reply: &ReplyRef<'_>) -> bool
-    ensures { result ≡ are_loads_changed_by command (lent reply.now) }
+/// Reports whether a command with this reply may have changed the load of any node; `None` if it changed nothing.
+fn loads_changed_by(command: Command, reply: ReplyRef<'_>) -> Option<bool>
+    ensures { changes_by command (lent reply.entry) ≡ option_map_or (λ loads. record { stripes = stripes_changed_by command; nodes = nodes_changed_by command; loads = loads }) result no_changes }
 {
     match reply {
-        ReplyRef::Refused(_) | ReplyRef::Idle => false,
-        ReplyRef::Changed => matches!(command, Command::Fail(_)),
-        _ => true,
+        ReplyRef::Refused(_) => None,
+        ReplyRef::Idle if matches!(command, Command::Next) => None,
+        ReplyRef::Idle => Some(false),
+        ReplyRef::Changed => Some(matches!(command, Command::Fail(_))),
+        _ => Some(true),
     }
 }

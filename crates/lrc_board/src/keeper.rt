@@ -136,7 +136,7 @@ impl<N: ViewNaming> Keeper<N> {
         if count == 0 {
             return (batch, fault);
         }
-        self.log.add(&history[before..]);
+        log_entries(&mut self.log, &self.book, before);
         let place = history.len() as u64;
         self.publisher.publish(rt, &self.book, &mut self.changes, place, &self.log.prefix());
         (batch, fault)
@@ -186,4 +186,14 @@ impl<N: ViewNaming> Keeper<N> {
         publisher.end(rt);
         book
     }
+}
+
+/// Adds to a log the entries of a book behind the first `before`, which it lacks.
+fn log_entries<N: ViewNaming>(log: &mut Log<N>, book: &Book, before: usize)
+    requires lacks { take before book.now.history ≡ log.old }
+    requires within { before ≤ length book.now.history }
+    ensures { log.new ≡ book.now.history }
+{
+    let history = book.history();
+    log.add(&history[before..]);
 }

@@ -78,23 +78,58 @@ fn writer_of<N: ViewNaming, R: Wait>(
     Ok(put_spare(rt, writer, second))
 }
 
-/// Makes the keeper of a book that began empty, with no entry before it, and has no entry.
-fn keeper_of<N: ViewNaming>(
-    book: Book,
-    log: NewLog,
-    writer: BoardWriter<N>,
-    last: Changes,
-    now: Changes,
-) -> Keeper<N>
-    requires book { (book.history ≡ []) × (book.nodes ≡ N.topology) × (book.limit ≡ N.limit) × (book.base ≡ first_world) × (book.before ≡ 0) }
-    requires log { (log.prefix.book ≡ N.log) × (log.permit.nib.key ≡ N.start) }
-    requires shown { writer.desk.shown.value ≡ empty_board N.topology N.log }
-    requires spare { writer.desk.spare.value ≡ empty_board N.topology N.log }
-    requires lists { (last ≡ no_changes) × (now ≡ no_changes) }
-    ensures { result ≡ book }
+/// Makes the writer of the boards, and the viewers of them, which have seen no entry.
+fn writer_and_viewers<N: ViewNaming, R: Wait>(
+    alloc: Global,
+    rt: &R,
+    topology: &Topology,
+    prefix: &LogPrefix,
+    readers: u8,
+) -> Result<(BoardWriter<N>, Vec<Viewer<N>>), OpenError>
+    requires log { (prefix.now.book ≡ N.log) × (prefix.now.log ≡ []) }
+    requires nodes { topology.now ≡ N.topology }
+    requires are_nodes { AreNodes N.topology }
+    requires readers { (1 ≤ readers) × (readers ≤ 8) }
+    ensures shown { IfOk result (λ r. r.0.desk.shown.value ≡ empty_board N.topology N.log) }
+    ensures spare { IfOk result (λ r. r.0.desk.spare.value ≡ empty_board N.topology N.log) }
+    ensures viewers { IfOk result (λ r. r.1.items ≡ replicate readers []) }
+    ensures err { IfErr result (λ e. e ≢ error.BadCount) }
 {
-    Keeper::new(book, log.named(), Publisher::new(writer, last), now)
+    let writer = writer_of::<N, R>(alloc, rt, topology, prefix, readers)?;
+    match viewers(alloc, writer.factory(), prefix, readers) {
+        Ok(viewers) => Ok((writer, viewers)),
+        Err(error) => {
+            writer.take(rt);
+            Err(error)
+        }
+    }
 }
+
+/// Makes the publisher of the boards, the viewers of them, which have seen no entry, and a list without changes.
+fn publisher_of<N: ViewNaming, R: Wait>(
+    alloc: Global,
+    rt: &R,
+    topology: &Topology,
+    prefix: &LogPrefix,
+    readers: u8,
+) -> Result<(Publisher<N>, Vec<Viewer<N>>, Changes), OpenError>
+    requires log { (prefix.now.book ≡ N.log) × (prefix.now.log ≡ []) }
+    requires nodes { topology.now ≡ N.topology }
+    requires are_nodes { AreNodes N.topology }
+    requires readers { (1 ≤ readers) × (readers ≤ 8) }
+    ensures publisher { IfOk result (λ r. r.0 ≡ []) }
+    ensures viewers { IfOk result (λ r. r.1.items ≡ replicate readers []) }
+    ensures changes { IfOk result (λ r. r.2 ≡ no_changes) }
+    ensures err { IfErr result (λ e. e ≢ error.BadCount) }
+{
+    let last = Changes::new(alloc)?;
+    let now = Changes::new(alloc)?;
+    let (writer, viewers) = writer_and_viewers::<N, R>(alloc, rt, topology, prefix, readers)?;
+    Ok((Publisher::new(writer, last), viewers, now))
+}
+
+/// Drops a book and its log. The one place where a book is dropped, since each costs the check a lot.
+fn close(_book: Book, _log: NewLog) {}
 
 impl<N: ViewNaming> Keeper<N> {
     /// Makes the keeper of a new book, and its viewers, which have seen no entry. `N` names the log, the nodes and the limit of
@@ -119,12 +154,12 @@ impl<N: ViewNaming> Keeper<N> {
         ensures err { IfErr result (λ e. e ≢ error.BadCount) }
     {
         book.history();
-        let (last, now) = (Changes::new(alloc)?, Changes::new(alloc)?);
-        let writer = writer_of::<N, R>(alloc, rt, book.topology(), &log.prefix, readers)?;
-        match viewers(alloc, writer.factory(), &log.prefix, readers) {
-            Ok(viewers) => Ok((keeper_of(book, log, writer, last, now), viewers)),
+        match publisher_of::<N, R>(alloc, rt, book.topology(), &log.prefix, readers) {
+            Ok((publisher, viewers, changes)) => {
+                Ok((Keeper::new(book, log.named(), publisher, changes), viewers))
+            }
             Err(error) => {
-                writer.take(rt);
+                close(book, log);
                 Err(error)
             }
         }
