@@ -128,7 +128,7 @@ fn publisher_of<N: ViewNaming, R: Wait>(
     Ok((Publisher::new(writer, last), viewers, now))
 }
 
-/// Drops a book and its log. The one place where a book is dropped, since each costs the check a lot.
+/// Drops a book and its log. No other place of this crate drops a book, since each is slow to prove.
 fn close(_book: Book, _log: NewLog) {}
 
 impl<N: ViewNaming> Keeper<N> {

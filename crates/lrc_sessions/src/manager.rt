@@ -61,21 +61,7 @@ impl<N: Naming> Manager<N> {
         ensures err { IfErr result (λ e. e ≢ error.BadCount) }
     {
         let (made, sessions) = room_for(alloc, parts.count)?;
-        let Parts {
-            book,
-            log,
-            tally,
-            count,
-        } = parts;
-        let (keeper, viewers) = Keeper::open(alloc, rt, book, log, count)?;
-        let (tally, mut rest) = tally.open::<N>();
-        let sessions = split(&mut rest, viewers, count, sessions);
-        let manager = Manager {
-            state: Mutex::new(LockedState::new(keeper, tally, rest)),
-            count,
-            made,
-        };
-        Ok((manager, sessions))
+        open_in(alloc, rt, parts, made, sessions)
     }
 
     /// Returns the number of sessions that the manager was opened with.
@@ -169,6 +155,42 @@ fn room_for<N: Naming>(
     let made = Vec::with_capacity(alloc, count as usize)?;
     let sessions = Vec::with_capacity(alloc, count as usize)?;
     Ok((made, sessions))
+}
+
+/// Opens a manager with its sessions in room that was allocated before.
+fn open_in<N: Naming, R: Wait>(
+    alloc: Global,
+    rt: &R,
+    parts: Parts,
+    made: Vec<(SessionNo, u64)>,
+    sessions: Vec<Session<N>>,
+) -> Result<(Manager<N>, Vec<Session<N>>), OpenError>
+    requires topology { parts.topology ≡ N.topology }
+    requires limit { parts.limit ≡ N.limit }
+    requires count { parts.count ≡ N.count }
+    requires name { parts.name ≡ N.name }
+    requires shares { parts.shares ≡ N.parts }
+    requires log { (parts.log ≡ N.log) × (parts.start ≡ N.start) }
+    requires made { (made.items ≡ []) × (parts.count ≤ vec_capacity made) }
+    requires sessions { (sessions.items ≡ []) × (parts.count ≤ vec_capacity sessions) }
+    ensures ok { IfOk result (λ r. (r.0.count ≡ parts.count) × (r.1.items ≡ fresh parts.count)) }
+    ensures err { IfErr result (λ e. e ≢ error.BadCount) }
+{
+    let Parts {
+        book,
+        log,
+        tally,
+        count,
+    } = parts;
+    let (keeper, viewers) = Keeper::open(alloc, rt, book, log, count)?;
+    let (tally, mut rest) = tally.open::<N>();
+    let sessions = split(&mut rest, viewers, count, sessions);
+    let manager = Manager {
+        state: Mutex::new(LockedState::new(keeper, tally, rest)),
+        count,
+        made,
+    };
+    Ok((manager, sessions))
 }
 
 /// Makes the sessions 1 to `count`, each with one part of the share and a viewer of its own.

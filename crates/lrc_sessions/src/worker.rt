@@ -85,8 +85,8 @@ fn keep(batches: &mut Vec<Batch>, batch: Batch)
     }
 }
 
-/// Makes calls of a session in one batch, after the first `done` calls of its script. Returns the batch, and why the
-/// script stopped.
+/// Makes calls of a session in one batch, after the first `done` calls of its script. It takes no lock if the gate stops
+/// the first. Returns the batch, and why the script stopped.
 fn make_batch<N: Naming, R: Wait, G: Gate>(
     rt: &R,
     manager: &Manager<N>,
@@ -104,6 +104,9 @@ fn make_batch<N: Naming, R: Wait, G: Gate>(
     ensures passed { (i : ℕ) → i < result.0.count → Passes G.lets G.tells session.old.number (done + i + 1) }
 {
     let let_through = ask(gate, session.number(), calls.len(), done);
+    if let_through == 0 && !calls.is_empty() {
+        return (no_calls(session), Some(Stop::Gate));
+    }
     let (batch, fault) = manager.call_all(rt, session, &calls[..let_through]);
     tell(gate, session.number(), batch.count, done);
     let stopped = match fault {
@@ -112,6 +115,15 @@ fn make_batch<N: Naming, R: Wait, G: Gate>(
         None => None,
     };
     (batch, stopped)
+}
+
+/// Returns a batch without calls, for which no lock was taken.
+fn no_calls<N: Naming>(session: &Session<N>) -> Batch
+    ensures made { AreCalled N.topology session.now [] result.first session.now }
+    ensures none { result.count ≡ 0 }
+{
+    session.front();
+    Batch { first: 0, count: 0 }
 }
 
 /// Asks a gate for `count` calls of a session after the first `done`, and returns how many it let through before it
