@@ -22,7 +22,8 @@ or a comment of `comments`), and the ratios to the first program.
   --bytes N       the most bytes of a bundle, up to 4194304 (1048576)
   --commands N    the most commands, or lines of `comments`, after those that fill the store (no limit but the bytes)
   --rounds N      how many rounds each program has on a bundle (5)
-  --seed N        another seed makes other bundles (1)
+  --seed N        another seed makes other bundles (1). If it is given several times and there are two programs, each load has
+                  one row of the table: the medians of all seeds, and a ratio that differs by more than a tenth as a range
   --scale         in place of the table: the cost of a line on stores of 32 nodes and 256 stripes, and of twice as many
                   up to 512 and 4096, with the same number of lines (20000, of ticks 160000), beyond that of filling the
                   store
@@ -81,7 +82,7 @@ def options(words):
     parser.add_argument("--bytes", type=number(1, MOST_BYTES))
     parser.add_argument("--commands", type=number(1, 1000000))
     parser.add_argument("--rounds", type=number(1, 1000))
-    parser.add_argument("--seed", type=number(0, 10**9), default=1)
+    parser.add_argument("--seed", action="append", dest="seeds", type=number(0, 10**9), metavar="N")
     parser.add_argument("--keep", metavar="FOLDER")
     given = common.parsed(parser, words, __doc__, USUAL, QUICK)
     if given.stripes > 8 * given.nodes:
@@ -92,6 +93,10 @@ def options(words):
     if given.budget and (others or len(given.programs) > 1) or given.write and not given.budget:
         parser.error("--budget takes one program, and no option but --only and --write, which goes with it alone")
     given.programs = [common.expect_program(parser, program) for program in given.programs or [PROGRAM]]
+    given.seeds = given.seeds or [1]
+    given.seed = given.seeds[0]
+    if len(given.seeds) > 1 and (given.scale or given.self_test or len(given.programs) != 2):
+        parser.error("several seeds take two programs, and neither --scale nor --self-test")
     return given
 
 
@@ -186,6 +191,39 @@ def print_table(given, folder):
     return wrong
 
 
+def print_pairs(given, folder):
+    """The table over several seeds: a row for each load, with what both programs take."""
+    sizes = f"{given.nodes} nodes, {given.stripes} stripes, at most {given.bytes} bytes"
+    print(f"{sizes}, {given.rounds} rounds, seeds {', '.join(map(str, given.seeds))}\n")
+    print_head(["load", "user ms", "user ratio", "wall ratio", "MiB"], 1)
+    least, wrong = least_memory(), 0
+    for kind in given.only or KINDS:
+        try:
+            pairs = list(measured_pairs(given, kind, folder))
+        except Wrong as what:
+            print(f"wrong: {what}", flush=True)
+            wrong += 1
+            continue
+        users = (f"{1000 * statistics.median(of_seeds):.1f}" for of_seeds in zip(*([ran.user for ran in pair] for pair in pairs)))
+        sizes = (memory_text(max(ran.memory for ran in of_program), least) for of_program in zip(*pairs))
+        ratios = (range_text([getattr(ours, time) / getattr(first, time) for first, ours in pairs]) for time in ("user", "wall"))
+        print_row([kind, " / ".join(users), *ratios, " / ".join(sizes)])
+    return wrong
+
+
+def measured_pairs(given, kind, folder):
+    """The medians of both programs on the bundle of each seed."""
+    for given.seed in given.seeds:
+        bundle = make_bundle(folder, kind, given.nodes, given.stripes, given, given.commands)
+        yield measure(given.programs, bundle, given.rounds)
+
+
+def range_text(ratios):
+    """The median of ratios, or their range where they differ by more than a tenth."""
+    least, most = min(ratios), max(ratios)
+    return f"{statistics.median(ratios):.2f}" if most <= 1.1 * least else f"{least:.2f} to {most:.2f}"
+
+
 def extra_costs(given, kind, size, folder):
     """The cost of a line of this kind for each program, without the lines that fill the store."""
     filled = make_bundle(folder, kind, *size, given, 0)
@@ -259,8 +297,14 @@ def test_options(given, folder, count):
     for programs, status in (([given.programs[0]] * 2, 0), ([given.programs[0], other], 1), ([other], 1)):
         words = ["--quick", "--only", "churn", *programs]
         count.check(f"{programs} end with status {status}", status_of(COMMAND, words) == status)
-    for words in ("--only nothing", "--nodes 513", "--bytes 4194305", "--rounds 0", "--nodes 16 --stripes 129", "--seed x",
-                  "--scale --only place", "--write", "--budget --rounds 2", "--budget --seed=2", "--no", "/nowhere"):
+    words = ["--quick", "--only", "churn", "--seed", "1", "--seed", "2", *[given.programs[0]] * 2]
+    ended = subprocess.run([sys.executable, COMMAND, *words], capture_output=True, text=True)
+    rows = [line for line in ended.stdout.splitlines() if line.startswith("| churn |")]
+    count.check(f"two seeds have one row: {ended}", ended.returncode == 0 and len(rows) == 1 and rows[0].count(" / ") == 2)
+    texts = [range_text(ratios) for ratios in ([1.0, 1.1], [1.5, 1.0], [2.0])]
+    count.check(f"ranges are {texts}", texts == ["1.05", "1.00 to 1.50", "2.00"])
+    for words in ("--seed 1 --seed 2", "--only nothing", "--nodes 513", "--bytes 4194305", "--rounds 0",
+                  "--nodes 16 --stripes 129", "--seed x", "--scale --only place", "--write", "--budget --rounds 2", "--budget --seed=2", "--no", "/nowhere"):
         count.check(f"{words} is refused", status_of(COMMAND, words.split()) == 2)
 
 
@@ -382,7 +426,8 @@ def main(words):
         if given.keep:
             os.makedirs(given.keep, exist_ok=True)
             folder = given.keep
-        work = self_test if given.self_test else hold_budget if given.budget else print_scale if given.scale else print_table
+        table = print_scale if given.scale else print_pairs if len(given.seeds) > 1 else print_table
+        work = self_test if given.self_test else hold_budget if given.budget else table
         return 1 if work(given, folder) else 0
 
 
