@@ -4,7 +4,6 @@ import (
 	"io"
 	"net/http"
 	"net/http/httptest"
-	"reflect"
 	"regexp"
 	"strings"
 	"sync"
@@ -116,12 +115,12 @@ func TestRefusalsDoNotFillALog(t *testing.T) {
 }
 
 func TestAFaultIsToldOnceAndAnswered(t *testing.T) {
-	said, found := &lines{}, []Served{}
+	said, served := &lines{}, make(chan Served, 100)
 	s := newService(t, func(with *setup) {
 		with.Log = logging.New(said, logging.Config{})
 		with.Observe = func(it Served) {
 			it.Took = 0
-			found = append(found, it)
+			served <- it
 		}
 		with.Mounts = []Mount{mountAt("/panic", func(http.ResponseWriter, *http.Request) { panic("this can't be") }),
 			mountAt("/late", func(w http.ResponseWriter, _ *http.Request) {
@@ -130,8 +129,21 @@ func TestAFaultIsToldOnceAndAnswered(t *testing.T) {
 				panic("later on")
 			}), mountAt("/nothing", func(http.ResponseWriter, *http.Request) {})}
 	})
-	found = nil
+	<-served // the request that makes a book
+	// expectServed waits for the next request that is observed: that comes after its answer.
+	expectServed := func(want Served) {
+		t.Helper()
+		select {
+		case it := <-served:
+			if it != want {
+				t.Errorf("%+v, and not %+v", it, want)
+			}
+		case <-time.After(time.Minute):
+			t.Errorf("%+v was not observed", want)
+		}
+	}
 	answer, fail := s.failed("GET", "/panic", "")
+	expectServed(Served{"/panic", "", NotTimed, 500, 0})
 	if fail.Status != 500 || fail.Code != "fault" || !answer.Close {
 		t.Errorf("%+v", fail)
 	}
@@ -146,10 +158,11 @@ func TestAFaultIsToldOnceAndAnswered(t *testing.T) {
 	if all := said.take(); len(all) != 1 || !strings.Contains(all[0], `a request met a fault route=/late fault="later on"`) {
 		t.Errorf("%q", all)
 	}
+	expectServed(Served{"/late", "", NotTimed, 500, 0})
 	s.ask("GET", "/nothing", "")
-	want := []Served{{"/panic", "", NotTimed, 500, 0}, {"/late", "", NotTimed, 500, 0}, {"/nothing", "", NotTimed, 200, 0}}
-	if !reflect.DeepEqual(found, want) {
-		t.Errorf("%+v, and not %+v", found, want)
+	expectServed(Served{"/nothing", "", NotTimed, 200, 0})
+	if len(served) != 0 {
+		t.Errorf("%+v was observed too", <-served)
 	}
 	for i := 0; i < 20; i++ {
 		s.ask("GET", "/panic", "")
