@@ -4,10 +4,9 @@ use Rattle.std.specs.List.{Contains}
 use Rattle.std.proofs.lemmas.Bool.{eqb-true, and_parts}
 use Rattle.std.proofs.lemmas.List.Elements.{Contains-append_left, Contains-append_right, Contains-append_cases}
 use Rattle.lrc_code.specs.declared.codes.Code.{Code}
-use Rattle.lrc_code.specs.declared.codes.Code.TheVariants.{Wide}
 use Rattle.lrc_code.specs.declared.numbers.StripeNo.{StripeNo}
 use Rattle.lrc_code.specs.declared.numbers.Fragment.{Fragment}
-use Rattle.lrc_code.specs.Codes.{fragments}
+use Rattle.lrc_code.specs.Codes.{fragments, all_fragments}
 use Rattle.lrc_code.proofs.NumbersLemmas.{equal_stripes, equal_fragments}
 use Rattle.lrc_topology.specs.declared.NodeInfo.{NodeInfo}
 use Rattle.lrc_topology.specs.declared.seat.Seat.{Seat}
@@ -79,19 +78,19 @@ module _ (s : StripeNo) (seats : Fragment → Option Seat) where
   ]
 
 module _ (nodes : List NodeInfo) (code : Code) (s : StripeNo) (f : Fragment) (before : List Held) (xs ys : Fragment → Option Seat) where
-  own-first : (h : Held) → Contains before h → Contains (before ++ held_all s ys (fragments Wide)) h
-  own-first h here = Contains-append_left before (held_all s ys (fragments Wide)) h here
+  own-first : (h : Held) → Contains before h → Contains (before ++ held_all s ys all_fragments) h
+  own-first h here = Contains-append_left before (held_all s ys all_fragments) h here
 
-  own-later : (g : Fragment) (h : Held) → Contains (held_if s g (ys g)) h → Contains (before ++ held_all s ys (fragments Wide)) h
-  own-later g h here = Contains-append_right before (held_all s ys (fragments Wide)) h (own-held s ys (fragments Wide) g (all-fragments g) h here)
+  own-later : (g : Fragment) (h : Held) → Contains (held_if s g (ys g)) h → Contains (before ++ held_all s ys all_fragments) h
+  own-later g h here = Contains-append_right before (held_all s ys all_fragments) h (own-held s ys all_fragments g (all-fragments g) h here)
 
   -- seats that are the same for all other fragments are there too
   other-seats : ((g : Fragment) → eqb g.value f.value ≡ false → xs g ≡ ys g) → (h : Held) → is_beside s f h ≡ true
-      → Contains (before ++ held_all s xs (fragments Wide)) h → Contains (before ++ held_all s ys (fragments Wide)) h
-  other-seats same h beside here = elim (Contains-append_cases before (held_all s xs (fragments Wide)) h here) [
+      → Contains (before ++ held_all s xs all_fragments) h → Contains (before ++ held_all s ys all_fragments) h
+  other-seats same h beside here = elim (Contains-append_cases before (held_all s xs all_fragments) h here) [
     | inl first ↦ own-first h first
     | inr later ↦
-        let (g, one) = held-from s xs (fragments Wide) h later in
+        let (g, one) = held-from s xs all_fragments h later in
         own-later g h (subst (λ (o : Option Seat). Contains (held_if s g o) h) (same g (apart g (xs g) one)) one)
   ]
     where
@@ -105,9 +104,9 @@ module _ (nodes : List NodeInfo) (code : Code) (s : StripeNo) (f : Fragment) (be
 module _ (nodes : List NodeInfo) (code : Code) (s : StripeNo) (f : Fragment) (before : List Held) (xs ys : Fragment → Option Seat) where
   -- a seat of the fragment itself bars nothing
   pub held_all-besides : ((g : Fragment) → eqb g.value f.value ≡ false → xs g ≡ ys g)
-      → bars_in nodes code s f (before ++ held_all s xs (fragments Wide)) ≡ bars_in nodes code s f (before ++ held_all s ys (fragments Wide))
+      → bars_in nodes code s f (before ++ held_all s xs all_fragments) ≡ bars_in nodes code s f (before ++ held_all s ys all_fragments)
   held_all-besides same =
-      bars_in-same nodes code s f (before ++ held_all s xs (fragments Wide)) (before ++ held_all s ys (fragments Wide)) (λ h beside. (
+      bars_in-same nodes code s f (before ++ held_all s xs all_fragments) (before ++ held_all s ys all_fragments) (λ h beside. (
         other-seats nodes code s f before xs ys same h beside,
         other-seats nodes code s f before ys xs (λ g other. sym (same g other)) h beside,
       ))
@@ -117,10 +116,10 @@ module _ (nodes : List NodeInfo) (code : Code) (s : StripeNo) (f : Fragment) (be
     new = record { stripe = s; fragment = g; seat = seat }
 
     -- a seat that was there is there still
-    kept : (h : Held) → Contains (before ++ held_all s xs (fragments Wide)) h → Contains (before ++ held_all s ys (fragments Wide)) h
-    kept h here = elim (Contains-append_cases before (held_all s xs (fragments Wide)) h here) [
+    kept : (h : Held) → Contains (before ++ held_all s xs all_fragments) h → Contains (before ++ held_all s ys all_fragments) h
+    kept h here = elim (Contains-append_cases before (held_all s xs all_fragments) h here) [
       | inl first ↦ own-first nodes code s f before xs ys h first
-      | inr later ↦ let (q, it) = held-from s xs (fragments Wide) h later in own-later nodes code s f before xs ys q h (moved q it (eqb q.value g.value) refl)
+      | inr later ↦ let (q, it) = held-from s xs all_fragments h later in own-later nodes code s f before xs ys q h (moved q it (eqb q.value g.value) refl)
     ]
       where
         moved : (q : Fragment) → Contains (held_if s q (xs q)) h → (b : Bool) → eqb q.value g.value ≡ b → Contains (held_if s q (ys q)) h
@@ -129,27 +128,27 @@ module _ (nodes : List NodeInfo) (code : Code) (s : StripeNo) (f : Fragment) (be
             (ap xs (equal_fragments q g (eqb-true q.value g.value own)) ∙ none) it))
 
     -- and none is new but the one
-    only : (h : Held) → Contains (before ++ held_all s ys (fragments Wide)) h → Contains ((before ++ held_all s xs (fragments Wide)) ++ new ∷ []) h
-    only h here = elim (Contains-append_cases before (held_all s ys (fragments Wide)) h here) [
-      | inl first ↦ Contains-append_left (before ++ held_all s xs (fragments Wide)) (new ∷ []) h (own-first nodes code s f before ys xs h first)
-      | inr later ↦ let (q, it) = held-from s ys (fragments Wide) h later in moved q it (eqb q.value g.value) refl
+    only : (h : Held) → Contains (before ++ held_all s ys all_fragments) h → Contains ((before ++ held_all s xs all_fragments) ++ new ∷ []) h
+    only h here = elim (Contains-append_cases before (held_all s ys all_fragments) h here) [
+      | inl first ↦ Contains-append_left (before ++ held_all s xs all_fragments) (new ∷ []) h (own-first nodes code s f before ys xs h first)
+      | inr later ↦ let (q, it) = held-from s ys all_fragments h later in moved q it (eqb q.value g.value) refl
     ]
       where
-        moved : (q : Fragment) → Contains (held_if s q (ys q)) h → (b : Bool) → eqb q.value g.value ≡ b → Contains ((before ++ held_all s xs (fragments Wide)) ++ new ∷ []) h
-        moved q it false other = Contains-append_left (before ++ held_all s xs (fragments Wide)) (new ∷ []) h
+        moved : (q : Fragment) → Contains (held_if s q (ys q)) h → (b : Bool) → eqb q.value g.value ≡ b → Contains ((before ++ held_all s xs all_fragments) ++ new ∷ []) h
+        moved q it false other = Contains-append_left (before ++ held_all s xs all_fragments) (new ∷ []) h
             (own-later nodes code s f before ys xs q h (subst (λ (o : Option Seat). Contains (held_if s q o) h) (same q other) it))
         moved q it true own =
             let here = equal_fragments q g (eqb-true q.value g.value own) in
-            Contains-append_right (before ++ held_all s xs (fragments Wide)) (new ∷ []) h
+            Contains-append_right (before ++ held_all s xs all_fragments) (new ∷ []) h
             (subst (λ (o : Option Seat). Contains (held_if s g o) h) one (subst (λ (p : Fragment). Contains (held_if s p (ys p)) h) here it))
 
     -- one seat more
-    pub held_all-one : with_seat nodes code s f (bars_in nodes code s f (before ++ held_all s xs (fragments Wide))) g (Some seat)
-        ≡ bars_in nodes code s f (before ++ held_all s ys (fragments Wide))
+    pub held_all-one : with_seat nodes code s f (bars_in nodes code s f (before ++ held_all s xs all_fragments)) g (Some seat)
+        ≡ bars_in nodes code s f (before ++ held_all s ys all_fragments)
     held_all-one =
-        bars_in-push nodes code s f (before ++ held_all s xs (fragments Wide)) new
-        ∙ bars_in-same nodes code s f ((before ++ held_all s xs (fragments Wide)) ++ new ∷ []) (before ++ held_all s ys (fragments Wide)) (λ h beside. (
-          λ here. elim (Contains-append_cases (before ++ held_all s xs (fragments Wide)) (new ∷ []) h here) [
+        bars_in-push nodes code s f (before ++ held_all s xs all_fragments) new
+        ∙ bars_in-same nodes code s f ((before ++ held_all s xs all_fragments) ++ new ∷ []) (before ++ held_all s ys all_fragments) (λ h beside. (
+          λ here. elim (Contains-append_cases (before ++ held_all s xs all_fragments) (new ∷ []) h here) [
             | inl old ↦ kept h old
             | inr last ↦ own-later nodes code s f before xs ys g h (subst (λ (o : Option Seat). Contains (held_if s g o) h) (sym one) last)
           ],
@@ -221,13 +220,13 @@ module _ (nodes : List NodeInfo) (st : State) (s : StripeNo) (seated : AreSeated
 
   -- so they bar the same for each fragment, beside what is barred before
   pub homes-all : (code : Code) (f : Fragment) (before : List Held)
-      → bars_in nodes code s f (before ++ held_all s (home_at st s) (fragments Wide)) ≡ bars_in nodes code s f (before ++ st.homes)
-  homes-all code f before = bars-beside nodes code s f before (held_all s (home_at st s) (fragments Wide)) st.homes
-      (held-one s (home_at st s) st.homes (λ g. home-if g (home_of st.homes s g.value) refl) (fragments Wide))
-      (λ h stripe home. own-held s (home_at st s) (fragments Wide) h.fragment (all-fragments h.fragment) h (home-held h stripe home))
+      → bars_in nodes code s f (before ++ held_all s (home_at st s) all_fragments) ≡ bars_in nodes code s f (before ++ st.homes)
+  homes-all code f before = bars-beside nodes code s f before (held_all s (home_at st s) all_fragments) st.homes
+      (held-one s (home_at st s) st.homes (λ g. home-if g (home_of st.homes s g.value) refl) all_fragments)
+      (λ h stripe home. own-held s (home_at st s) all_fragments h.fragment (all-fragments h.fragment) h (home-held h stripe home))
 
   pub targets-all : (code : Code) (f : Fragment) (before : List Held)
-      → bars_in nodes code s f (before ++ held_all s (target_at st s) (fragments Wide)) ≡ bars_in nodes code s f (before ++ map held_by st.leases)
-  targets-all code f before = bars-beside nodes code s f before (held_all s (target_at st s) (fragments Wide)) (map held_by st.leases)
-      (held-one s (target_at st s) (map held_by st.leases) (λ g. target-if g (lease_of st s g) refl) (fragments Wide))
-      (λ h stripe target. own-held s (target_at st s) (fragments Wide) h.fragment (all-fragments h.fragment) h (target-held h stripe target))
+      → bars_in nodes code s f (before ++ held_all s (target_at st s) all_fragments) ≡ bars_in nodes code s f (before ++ map held_by st.leases)
+  targets-all code f before = bars-beside nodes code s f before (held_all s (target_at st s) all_fragments) (map held_by st.leases)
+      (held-one s (target_at st s) (map held_by st.leases) (λ g. target-if g (lease_of st s g) refl) all_fragments)
+      (λ h stripe target. own-held s (target_at st s) all_fragments h.fragment (all-fragments h.fragment) h (target-held h stripe target))

@@ -10,7 +10,7 @@ use Rattle.lrc_code.specs.declared.numbers.StripeNo.{StripeNo}
 use Rattle.lrc_code.specs.declared.numbers.FaultNo.{FaultNo}
 use Rattle.lrc_code.specs.declared.numbers.UpgradeNo.{UpgradeNo}
 use Rattle.lrc_code.specs.declared.numbers.Fragment.{Fragment}
-use Rattle.lrc_code.specs.Codes.{fragments, share_class}
+use Rattle.lrc_code.specs.Codes.{fragments, share_class, all_fragments}
 use Rattle.lrc_code.specs.Losses.{bits_set}
 use Rattle.lrc_topology.specs.Nodes.{node_at}
 use Rattle.lrc_topology.specs.declared.NodeInfo.{NodeInfo}
@@ -38,12 +38,12 @@ and-swap false false = refl
 -- some fragment is in both exactly where one of these fragments' homes is in the domain
 pub some-stand : (domains : List ℕ) (number alike bits met : ℕ) → met < 65536 → met ≡ bit_and alike bits
     → ((f : ℕ) → bits_set alike f ≡ (nat_lt f 16 && nat_eq (get_or domains f 0) number))
-    → not (nat_eq met 0) ≡ list_any (stands_in domains bits number) (fragments Wide)
+    → not (nat_eq met 0) ≡ list_any (stands_in domains bits number) all_fragments
 some-stand domains number alike bits met few is same = elim (cases_eq met 0) [
-  | inl none ↦ rw (eq-eqb met 0 none) (sym (list_any_none (stands_in domains bits number) (fragments Wide) (λ i d within.
-      let f = get_or (fragments Wide) i d in
+  | inl none ↦ rw (eq-eqb met 0 none) (sym (list_any_none (stands_in domains bits number) all_fragments (λ i d within.
+      let f = get_or all_fragments i d in
       sym (set f) ∙ rw (none, bit_at-zero f.value) refl)))
-  | inr some ↦ rw (ne_eqb met 0 some) (elim (cases_Bool (list_any (stands_in domains bits number) (fragments Wide))) [
+  | inr some ↦ rw (ne_eqb met 0 some) (elim (cases_Bool (list_any (stands_in domains bits number) all_fragments)) [
     | inl hit ↦ sym hit
     | inr miss ↦
         absurd (let full = has_some-bits met few some in
@@ -56,12 +56,12 @@ some-stand domains number alike bits met few is same = elim (cases_eq met 0) [
       ∙ ap (λ (b : Bool). b && bits_set bits f.value) (same f.value ∙ ap (λ (b : Bool). b && nat_eq (get_or domains f.value 0) number) (lt-ltb f.value 16 f.in_range))
       ∙ and-swap (nat_eq (get_or domains f.value 0) number) (bits_set bits f.value)
 
-  off : (i : ℕ) → i < 16 → list_any (stands_in domains bits number) (fragments Wide) ≡ false → bits_set met i ≡ false
+  off : (i : ℕ) → i < 16 → list_any (stands_in domains bits number) all_fragments ≡ false → bits_set met i ≡ false
   off i low miss =
       let f : Fragment = record { value = i; in_range = low } in
       elim (cases_Bool (stands_in domains bits number f)) [
         | inl hit ↦
-            absurd (let any = list_any_at (stands_in domains bits number) (fragments Wide) i f (omega (arith, low)) (ap (stands_in domains bits number) (fragment-at f) ∙ hit) in
+            absurd (let any = list_any_at (stands_in domains bits number) all_fragments i f (omega (arith, low)) (ap (stands_in domains bits number) (fragment-at f) ∙ hit) in
             let clash : true ≡ false = sym any ∙ miss in cc)
         | inr no_hit ↦ set f ∙ no_hit
       ]

@@ -3,8 +3,7 @@ use Rattle.std.specs.Prelude.{ℕ, Bool, ◌&&◌, ◌||◌, nat_eq, List, get_o
 use Rattle.std.specs.List.{list_any}
 use Rattle.lrc_code.specs.declared.numbers.Fragment.{Fragment}
 use Rattle.lrc_code.specs.Losses.{bits_set}
-use Rattle.lrc_code.specs.declared.codes.Code.TheVariants.{Wide}
-use Rattle.lrc_code.specs.Codes.{fragments}
+use Rattle.lrc_code.specs.Codes.{fragments, all_fragments}
 use Rattle.lrc_slots.specs.Barred.{Barred, joined}
 use Rattle.lrc_slots.specs.Tables.{barred}
 use Rattle.lrc_bars.specs.declared.neighbours.OtherSeats.{OtherSeats}
@@ -21,7 +20,7 @@ domains_bar faults upgrades others members fs =
 
 -- (internal) the domains that these seats bar
 abbrev pub seats_bar : OtherSeats → Barred
-seats_bar n = domains_bar n.domains.now.faults n.domains.now.upgrades n.others.bits n.members.bits (fragments Wide)
+seats_bar n = domains_bar n.domains.now.faults n.domains.now.upgrades n.others.bits n.members.bits all_fragments
 
 -- (internal) the domains that the homes and the targets bar, and all else that is barred
 abbrev pub barred_by : Neighbours → Barred

@@ -1,7 +1,6 @@
 ghost use Rattle.std.specs.Prelude.{◌≡◌, ◌<◌, ◌&&◌, ◌||◌, ℕ, List, nat_eq, nat_lt, get_or};
 ghost use Rattle.std.specs.List.{list_any};
-ghost use Rattle.lrc_code.specs.declared.codes.Code.TheVariants.{Wide};
-ghost use Rattle.lrc_code.specs.Codes.{fragments};
+ghost use Rattle.lrc_code.specs.Codes.{fragments, all_fragments};
 ghost use Rattle.lrc_code.specs.Losses.{bits_set};
 ghost use Rattle.lrc_slots.specs.Barred.{Barred, joined};
 ghost use Rattle.lrc_slots.specs.BarredNodes.{AreBarredNodes};
@@ -104,7 +103,7 @@ impl<'a> Barring for Neighbours<'a> {
 /// Whether two sets have a fragment in common.
 fn meet(one: LossMask, other: LossMask) -> bool
     ensures { (domains : List ℕ) (number : ℕ) → ((f : ℕ) → bits_set one.bits f ≡ (nat_lt f 16 && nat_eq (get_or domains f 0) number))
-        → result ≡ list_any (stands_in domains other.bits number) (fragments Wide) }
+        → result ≡ list_any (stands_in domains other.bits number) all_fragments }
 {
     let met = LossMask::from_bits(one.bits & other.bits);
     met.bits != 0

@@ -12,7 +12,7 @@ use Rattle.lrc_code.specs.declared.numbers.NodeNo.{NodeNo}
 use Rattle.lrc_code.specs.declared.numbers.UpgradeNo.{UpgradeNo}
 use Rattle.lrc_code.specs.declared.numbers.SessionNo.{SessionNo}
 use Rattle.lrc_code.specs.declared.numbers.Fragment.{Fragment}
-use Rattle.lrc_code.specs.Codes.{fragments}
+use Rattle.lrc_code.specs.Codes.{fragments, all_fragments}
 use Rattle.lrc_code.specs.Numbers.{same_stripe, same_node, same_upgrade}
 use Rattle.lrc_topology.specs.declared.NodeInfo.{NodeInfo}
 use Rattle.lrc_topology.specs.declared.seat.Seat.{Seat}
@@ -93,7 +93,7 @@ module _ (st : State) (n : NodeNo) (s : StripeNo) where
   off-node : is_row_on n (row_by true (code_of st s) (homes_of st.homes s)) ≡ false → (f : ℕ) → f < 16 → sits_on n (homes_of st.homes s f) ≡ false
   unfolding is_seated_on
   off-node none f low =
-      let homes : List (Option Seat) = map (λ (g : Fragment). homes_of st.homes s g.value) (fragments Wide) in
+      let homes : List (Option Seat) = map (λ (g : Fragment). homes_of st.homes s g.value) all_fragments in
       sym (ap (sits_on n) (home-in (homes_of st.homes s) f low)) ∙ has_some-false Wide (λ f. sits_on n (get_or homes f None)) none f low
 
   -- a stripe without a home on the node keeps its row
@@ -109,7 +109,7 @@ module _ (st : State) (n : NodeNo) (s : StripeNo) where
           → row_by there (code_of st s) (homes_of left s) ≡ row_by there (code_of st s) (homes_of st.homes s)
       by false off = refl
       by true off =
-          ap (λ (at : Fragment → Option Seat). row_with true (code_of st s) (map at (fragments Wide)))
+          ap (λ (at : Fragment → Option Seat). row_with true (code_of st s) (map at all_fragments))
           (fun_ext (λ (f : Fragment). home-stays f.value (off-node off f.value f.in_range)))
 
 -- ---- nodes

@@ -14,7 +14,7 @@ use Rattle.lrc_code.specs.declared.codes.Code.TheVariants.{Wide}
 use Rattle.lrc_code.specs.declared.numbers.StripeNo.{StripeNo}
 use Rattle.lrc_code.specs.declared.numbers.NodeNo.{NodeNo}
 use Rattle.lrc_code.specs.declared.numbers.Fragment.{Fragment}
-use Rattle.lrc_code.specs.Codes.{fragments, has_fragment}
+use Rattle.lrc_code.specs.Codes.{fragments, has_fragment, all_fragments}
 use Rattle.lrc_code.specs.Losses.{bits_set}
 use Rattle.lrc_code.proofs.NumbersLemmas.{equal_stripes}
 use Rattle.lrc_topology.specs.declared.NodeInfo.{NodeInfo}
@@ -124,17 +124,17 @@ abbrev pub row_with : Bool → Code → List (Option Seat) → Option StripeHome
 row_with there code homes = if there then Some (record { code = code; homes = homes }) else None
 
 abbrev pub row_by : Bool → Code → Homes → Option StripeHomes
-row_by there code homes = row_with there code (map (λ f. homes f.value) (fragments Wide))
+row_by there code homes = row_with there code (map (λ f. homes f.value) all_fragments)
 
 pub row-is : (st : State) (s : StripeNo) → homes_row st s ≡ row_by (has_stripe st s) (code_of st s) (homes_of st.homes s)
 unfolding homes_row
 row-is st s = refl
 
 -- the home of a fragment in the row
-pub home-in : (homes : Homes) (f : ℕ) → f < 16 → get_or (map (λ (g : Fragment). homes g.value) (fragments Wide)) f None ≡ homes f
+pub home-in : (homes : Homes) (f : ℕ) → f < 16 → get_or (map (λ (g : Fragment). homes g.value) all_fragments) f None ≡ homes f
 home-in homes f low =
     let first : Fragment = record { value = 0; in_range = lit< tt } in
-    get_or-map (λ (g : Fragment). homes g.value) (fragments Wide) f first None low ∙ ap homes (fragment-number f first low)
+    get_or-map (λ (g : Fragment). homes g.value) all_fragments f first None low ∙ ap homes (fragment-number f first low)
 
 -- as a book shows it
 module _ (st : State) (s : StripeNo) where
@@ -144,7 +144,7 @@ module _ (st : State) (s : StripeNo) where
   none-by false code homes e = refl
 
   pub row-none : None ≡ code_shown st s → None ≡ homes_row st s
-  row-none e = none-by (has_stripe st s) (code_of st s) (map (λ (f : Fragment). homes_of st.homes s f.value) (fragments Wide)) (sym e) ∙ sym (row-is st s)
+  row-none e = none-by (has_stripe st s) (code_of st s) (map (λ (f : Fragment). homes_of st.homes s f.value) all_fragments) (sym e) ∙ sym (row-is st s)
 
   bare-by : (there : Bool) (code : Code) (homes : List (Option Seat)) → ◌≡◌ {A = Option (List (Option Seat))} (if there then Some homes else None) None
       → ◌≡◌ {A = Option StripeHomes} None (row_with there code homes)
@@ -152,7 +152,7 @@ module _ (st : State) (s : StripeNo) where
   bare-by false code homes e = refl
 
   pub row-bare : None ≡ homes_shown st s → None ≡ homes_row st s
-  row-bare e = bare-by (has_stripe st s) (code_of st s) (map (λ (f : Fragment). homes_of st.homes s f.value) (fragments Wide)) (sym e) ∙ sym (row-is st s)
+  row-bare e = bare-by (has_stripe st s) (code_of st s) (map (λ (f : Fragment). homes_of st.homes s f.value) all_fragments) (sym e) ∙ sym (row-is st s)
 
   some-by : (there : Bool) (own code : Code) (kept homes : List (Option Seat)) → (if there then Some own else None) ≡ Some code
       → (if there then Some kept else None) ≡ Some homes → row_with true code homes ≡ row_with there own kept
@@ -161,7 +161,7 @@ module _ (st : State) (s : StripeNo) where
 
   pub row-some : (code : Code) (homes : List (Option Seat)) → Some code ≡ code_shown st s → Some homes ≡ homes_shown st s → row_with true code homes ≡ homes_row st s
   row-some code homes a b =
-      some-by (has_stripe st s) (code_of st s) code (map (λ (f : Fragment). homes_of st.homes s f.value) (fragments Wide)) homes (sym a) (sym b) ∙ sym (row-is st s)
+      some-by (has_stripe st s) (code_of st s) code (map (λ (f : Fragment). homes_of st.homes s f.value) all_fragments) homes (sym a) (sym b) ∙ sym (row-is st s)
 
 -- ---- the rows and the flags of a state
 
@@ -223,7 +223,7 @@ module _ (nodes : List NodeInfo) (st : State) (s : StripeNo) where
   code = code_of st s
 
   abbrev kept : List (Option Seat)
-  kept = map (λ (f : Fragment). homes_of st.homes s f.value) (fragments Wide)
+  kept = map (λ (f : Fragment). homes_of st.homes s f.value) all_fragments
 
   -- only the fragments of the code count
   own-home : (test : Option Seat → Bool) (f : ℕ) (own : Bool) → has_fragment code f ≡ own

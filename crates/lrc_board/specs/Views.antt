@@ -2,10 +2,9 @@
 use Rattle.std.specs.Prelude.{◌≡◌, ℕ, Bool, if◌then◌else◌, List, [], length, map, Option, Some, None}
 use Rattle.std.specs.List.{range_with_len}
 use Rattle.logbook.specs.Pages.{Book}
-use Rattle.lrc_code.specs.declared.codes.Code.TheVariants.{Wide}
 use Rattle.lrc_code.specs.declared.numbers.StripeNo.{StripeNo}
 use Rattle.lrc_code.specs.declared.numbers.NodeNo.{NodeNo}
-use Rattle.lrc_code.specs.Codes.{fragments}
+use Rattle.lrc_code.specs.Codes.{all_fragments}
 use Rattle.lrc_topology.specs.declared.NodeInfo.{NodeInfo}
 use Rattle.lrc_terms.specs.Levels.{homes_of}
 use Rattle.lrc_terms.specs.Stripes.{stripe_at}
@@ -25,7 +24,7 @@ Rows = List (Option StripeHomes)
 
 -- (internal) the code of a stripe, and its homes by the sixteen fragment numbers, in a state
 unfoldable pub homes_row : State → StripeNo → Option StripeHomes
-homes_row st s = if has_stripe st s then Some (record { code = code_of st s; homes = map (λ f. homes_of st.homes s f.value) (fragments Wide) }) else None
+homes_row st s = if has_stripe st s then Some (record { code = code_of st s; homes = map (λ f. homes_of st.homes s f.value) all_fragments }) else None
 
 -- (internal) the rows of the first `count` stripe numbers
 abbrev pub rows_by : ℕ → (StripeNo → Option StripeHomes) → Rows

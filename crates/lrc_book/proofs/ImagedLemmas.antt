@@ -4,10 +4,9 @@ use Rattle.std.specs.Prelude.{option_map, option_to_list, Result, Ok, Err, IfOk,
 use Rattle.std.specs.List.{list_any}
 use Rattle.std.proofs.lemmas.List.{ext_get_or, get_or-map, take_more}
 use Rattle.std.proofs.lemmas.List.Concat.{flat_map-append}
-use Rattle.lrc_code.specs.declared.codes.Code.TheVariants.{Wide}
 use Rattle.lrc_code.specs.declared.numbers.StripeNo.{StripeNo}
 use Rattle.lrc_code.specs.declared.numbers.Fragment.{Fragment}
-use Rattle.lrc_code.specs.Codes.{fragments}
+use Rattle.lrc_code.specs.Codes.{fragments, all_fragments}
 use Rattle.lrc_topology.specs.declared.seat.Seat.{Seat}
 use Rattle.lrc_terms.specs.Levels.{homes_of, homes_if}
 use Rattle.lrc_terms.specs.declared.lease.Lease.{Lease}
@@ -25,17 +24,17 @@ use Rattle.lrc_images.specs.Rows.{stripe_row, row_of_grants, grant_row, lease_ro
 
 -- ---- fragments by number
 
-pub item-number : (items : List Fragment) (i : ℕ) (d : Fragment) → items ≡ fragments Wide → i < 16 → (get_or items i d).value ≡ i
+pub item-number : (items : List Fragment) (i : ℕ) (d : Fragment) → items ≡ all_fragments → i < 16 → (get_or items i d).value ≡ i
 item-number items i d all within = rw all (fragment-number i d within)
 
 -- a list with the value of each fragment at its number
-pub by-fragment : (counts : List ℕ) (value : Fragment → ℕ) → length counts ≡ 16 → ((f : Fragment) → get_or counts f.value 0 ≡ value f) → counts ≡ map value (fragments Wide)
+pub by-fragment : (counts : List ℕ) (value : Fragment → ℕ) → length counts ≡ 16 → ((f : Fragment) → get_or counts f.value 0 ≡ value f) → counts ≡ map value all_fragments
 by-fragment counts value long each =
     let first : Fragment = record { value = 0; in_range = lit< tt } in
-    ext_get_or 0 counts (map value (fragments Wide)) long (λ k below.
+    ext_get_or 0 counts (map value all_fragments) long (λ k below.
     let within : k < 16 = omega (arith, below, long) in
     let number = fragment-number k first within in
-    ap (λ n. get_or counts n 0) (sym number) ∙ each (get_or (fragments Wide) k first) ∙ sym (get_or-map value (fragments Wide) k first 0 within))
+    ap (λ n. get_or counts n 0) (sym number) ∙ each (get_or all_fragments k first) ∙ sym (get_or-map value all_fragments k first 0 within))
 
 -- ---- rows
 
@@ -44,7 +43,7 @@ module _ (st : State) (s : StripeNo) where
   row_with homes = record { stripe = s; code = code_of st s; homes = homes }
 
   abbrev own_homes : List (Option Seat)
-  own_homes = map (λ (f : Fragment). homes_of st.homes s f.value) (fragments Wide)
+  own_homes = map (λ (f : Fragment). homes_of st.homes s f.value) all_fragments
 
   some-by : (b : Bool) (homes : List (Option Seat)) → (if b then Some own_homes else None) ≡ Some homes → Some (row_with homes) ≡ (if b then Some (row_with own_homes) else None)
   some-by true homes e = ap (option_map row_with) (sym e)
@@ -62,12 +61,12 @@ module _ (st : State) (s : StripeNo) where
   unfolding homes_if
   stripe-none is = none-by (has_stripe st s) is
 
-any-told : (value : Fragment → ℕ) → list_any (λ f. nat_lt 0 (get_or (map value (fragments Wide)) f.value 0)) (fragments Wide) ≡ list_any (nat_lt 0) (map value (fragments Wide))
+any-told : (value : Fragment → ℕ) → list_any (λ f. nat_lt 0 (get_or (map value all_fragments) f.value 0)) all_fragments ≡ list_any (nat_lt 0) (map value all_fragments)
 any-told value = refl
 
-module _ (past : List Entry) (kept : List ℕ) (s : StripeNo) (granted : List ℕ) (is : granted ≡ map (λ f. granted_in kept s f) (fragments Wide)) (counted : AreGrantsOf past kept) where
+module _ (past : List Entry) (kept : List ℕ) (s : StripeNo) (granted : List ℕ) (is : granted ≡ map (λ f. granted_in kept s f) all_fragments) (counted : AreGrantsOf past kept) where
   same-granted : granted ≡ (row_of_grants past s).granted
-  same-granted = is ∙ (λ i. map (λ f. counted s f i) (fragments Wide))
+  same-granted = is ∙ (λ i. map (λ f. counted s f i) all_fragments)
 
   abbrev grant_with : List ℕ → GrantRow
   grant_with counts = record { stripe = s; granted = counts }
@@ -92,30 +91,30 @@ if-ok (Err e) into holds = tt
 
 -- ---- leases
 
-module _ (st : State) (s : StripeNo) (items : List Fragment) (all : items ≡ fragments Wide) (i : ℕ) (d : Fragment) (within : i < 16) (rows before : List LeaseRow)
-    (so_far : rows ≡ before ++ flat_map (λ f. option_to_list (option_map lease_row (lease_of st s f))) (take i (fragments Wide))) where
+module _ (st : State) (s : StripeNo) (items : List Fragment) (all : items ≡ all_fragments) (i : ℕ) (d : Fragment) (within : i < 16) (rows before : List LeaseRow)
+    (so_far : rows ≡ before ++ flat_map (λ f. option_to_list (option_map lease_row (lease_of st s f))) (take i all_fragments)) where
   abbrev leases_at : Fragment → List LeaseRow
   leases_at f = option_to_list (option_map lease_row (lease_of st s f))
 
   leases-more : (o : Option Lease) → lease_of st s (get_or items i d) ≡ o
-      → rows ++ option_to_list (option_map lease_row o) ≡ before ++ flat_map leases_at (take (i + 1) (fragments Wide))
+      → rows ++ option_to_list (option_map lease_row o) ≡ before ++ flat_map leases_at (take (i + 1) all_fragments)
   leases-more o is =
-      let here : get_or items i d ≡ get_or (fragments Wide) i d = ap (λ (fs : List Fragment). get_or fs i d) all in
+      let here : get_or items i d ≡ get_or all_fragments i d = ap (λ (fs : List Fragment). get_or fs i d) all in
       ap (λ (l : List LeaseRow). l ++ option_to_list (option_map lease_row o)) so_far
-      ∙ append_assoc before (flat_map leases_at (take i (fragments Wide))) (option_to_list (option_map lease_row o))
+      ∙ append_assoc before (flat_map leases_at (take i all_fragments)) (option_to_list (option_map lease_row o))
       ∙ ap (λ l. before ++ l) (
-      ap (λ (p : Option Lease). flat_map leases_at (take i (fragments Wide)) ++ option_to_list (option_map lease_row p)) (sym is ∙ ap (lease_of st s) here)
-      ∙ ap (λ l. flat_map leases_at (take i (fragments Wide)) ++ l) (sym (append-nil (leases_at (get_or (fragments Wide) i d))))
-      ∙ sym (flat_map-append leases_at (take i (fragments Wide)) (get_or (fragments Wide) i d ∷ []))
-      ∙ ap (flat_map leases_at) (sym (take_more (fragments Wide) i d within)))
+      ap (λ (p : Option Lease). flat_map leases_at (take i all_fragments) ++ option_to_list (option_map lease_row p)) (sym is ∙ ap (lease_of st s) here)
+      ∙ ap (λ l. flat_map leases_at (take i all_fragments) ++ l) (sym (append-nil (leases_at (get_or all_fragments i d))))
+      ∙ sym (flat_map-append leases_at (take i all_fragments) (get_or all_fragments i d ∷ []))
+      ∙ ap (flat_map leases_at) (sym (take_more all_fragments i d within)))
 
-  pub lease-push : (l : Lease) → lease_of st s (get_or items i d) ≡ Some l → rows ++ lease_row l ∷ [] ≡ before ++ flat_map leases_at (take (i + 1) (fragments Wide))
+  pub lease-push : (l : Lease) → lease_of st s (get_or items i d) ≡ Some l → rows ++ lease_row l ∷ [] ≡ before ++ flat_map leases_at (take (i + 1) all_fragments)
   lease-push l is = leases-more (Some l) is
 
-  pub lease-pass : lease_of st s (get_or items i d) ≡ None → rows ≡ before ++ flat_map leases_at (take (i + 1) (fragments Wide))
+  pub lease-pass : lease_of st s (get_or items i d) ≡ None → rows ≡ before ++ flat_map leases_at (take (i + 1) all_fragments)
   lease-pass is = sym (append-nil rows) ∙ leases-more None is
 
 pub leases-all : (st : State) (s : StripeNo) (i : ℕ) (rows before : List LeaseRow)
-    → rows ≡ before ++ flat_map (λ f. option_to_list (option_map lease_row (lease_of st s f))) (take i (fragments Wide)) → i ≡ 16 → rows ≡ before ++ stripe_leases st s
+    → rows ≡ before ++ flat_map (λ f. option_to_list (option_map lease_row (lease_of st s f))) (take i all_fragments) → i ≡ 16 → rows ≡ before ++ stripe_leases st s
 leases-all st s i rows before so_far end =
-    so_far ∙ ap (λ n. before ++ flat_map (λ f. option_to_list (option_map lease_row (lease_of st s f))) (take n (fragments Wide))) end
+    so_far ∙ ap (λ n. before ++ flat_map (λ f. option_to_list (option_map lease_row (lease_of st s f))) (take n all_fragments)) end

@@ -5,9 +5,8 @@ use Rattle.std.proofs.lemmas.Bool.{cases_eq, cases_lt, eq-eqb, ne_eqb, lt-ltb, l
 use Rattle.std.proofs.lemmas.List.{get_or-map}
 use Rattle.std.proofs.lemmas.Nat.Bits.{bit_at_above}
 use Rattle.lrc_code.specs.declared.codes.Code.{Code}
-use Rattle.lrc_code.specs.declared.codes.Code.TheVariants.{Wide}
 use Rattle.lrc_code.specs.declared.numbers.Fragment.{Fragment}
-use Rattle.lrc_code.specs.Codes.{fragments, fragment_count, has_fragment}
+use Rattle.lrc_code.specs.Codes.{fragments, fragment_count, has_fragment, all_fragments}
 use Rattle.lrc_code.specs.Losses.{FragmentSet, bits_set, bits_of, size_of}
 use Rattle.lrc_code.proofs.BitsLemmas.{bits_set-bits_of, bits_of-below, bits_of-bits_set, fits-within}
 use Rattle.lrc_topology.specs.declared.seat.Seat.{Seat}
@@ -73,12 +72,12 @@ tested code test homes f = has_fragment code f && test (get_or homes f None)
 abbrev pub unhomed : Code → List (Option Seat) → FragmentSet
 unhomed code homes f = tested code is_none homes f
 
-module _ (code : Code) (test : Option Seat → Bool) (homes : List (Option Seat)) (of : Homes) (are : homes ≡ map (λ f. of f.value) (fragments Wide)) (bits : ℕ)
+module _ (code : Code) (test : Option Seat → Bool) (homes : List (Option Seat)) (of : Homes) (are : homes ≡ map (λ f. of f.value) all_fragments) (bits : ℕ)
     (all : (f : ℕ) → bits_set bits f ≡ (ltb f 16 && tested code test homes f)) where
   home-at : (f : ℕ) → f < 16 → get_or homes f None ≡ of f
   home-at f within =
       let first : Fragment = record { value = 0; in_range = lit< tt } in
-      ap (λ (l : List (Option Seat)). get_or l f None) are ∙ get_or-map (λ (g : Fragment). of g.value) (fragments Wide) f first None within
+      ap (λ (l : List (Option Seat)). get_or l f None) are ∙ get_or-map (λ (g : Fragment). of g.value) all_fragments f first None within
       ∙ ap of (fragment-number f first within)
 
   -- the marked fragments are those whose home passes
@@ -91,7 +90,7 @@ module _ (code : Code) (test : Option Seat → Bool) (homes : List (Option Seat)
         ∙ sym (ap (λ (b : Bool). b && test (of f)) (le-ltb f (fragment_count code) (omega (arith, few, past))))
   ]
 
-pub homeless-mask : (code : Code) (homes : List (Option Seat)) (of : Homes) → homes ≡ map (λ f. of f.value) (fragments Wide) → (bits : ℕ)
+pub homeless-mask : (code : Code) (homes : List (Option Seat)) (of : Homes) → homes ≡ map (λ f. of f.value) all_fragments → (bits : ℕ)
     → ((f : ℕ) → bits_set bits f ≡ (ltb f 16 && unhomed code homes f)) → bits ≡ bits_of code (homeless_in code of)
 homeless-mask code homes of are bits all =
     mask-is code (homeless_in code of) (λ f past. ap (λ (b : Bool). b && is_none (of f)) (le-ltb f (fragment_count code) past)) bits

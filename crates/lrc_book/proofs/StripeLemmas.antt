@@ -9,9 +9,8 @@ use Rattle.std.proofs.lemmas.List.Sums.{length-filter, count_by-le-length}
 use Rattle.std.proofs.lemmas.List.FromFn.{length-range_with_len, get_or-range_with_len, length-map-range_with_len, map-range_with_len_more}
 use Rattle.std.proofs.Math.Nat.{mod-eq_of_lt}
 use Rattle.lrc_code.specs.declared.codes.Code.{Code}
-use Rattle.lrc_code.specs.declared.codes.Code.TheVariants.{Wide}
 use Rattle.lrc_code.specs.declared.numbers.Fragment.{Fragment}
-use Rattle.lrc_code.specs.Codes.{fragments}
+use Rattle.lrc_code.specs.Codes.{all_fragments}
 use Rattle.lrc_code.specs.Losses.{bits_of}
 use Rattle.lrc_code.specs.declared.numbers.StripeNo.{StripeNo}
 use Rattle.lrc_code.proofs.NumbersLemmas.{equal_stripes}
@@ -124,5 +123,5 @@ module _ (nodes : List NodeInfo) (st : State) (s : StripeNo) (there : has_stripe
   unfolding missing_if
   mask-told = rw there refl
 
-  pub homes-told : homes_shown st s ≡ Some (map (λ (f : Fragment). homes_of st.homes s f.value) (fragments Wide))
+  pub homes-told : homes_shown st s ≡ Some (map (λ (f : Fragment). homes_of st.homes s f.value) all_fragments)
   homes-told = rw there refl

@@ -5,9 +5,8 @@ use Rattle.std.specs.Option.{option_map_or}
 use Rattle.lrc_code.specs.declared.numbers.StripeNo.{StripeNo}
 use Rattle.lrc_code.specs.declared.numbers.NodeNo.{NodeNo}
 use Rattle.lrc_code.specs.declared.numbers.Fragment.{Fragment}
-use Rattle.lrc_code.specs.declared.codes.Code.TheVariants.{Wide}
 use Rattle.lrc_code.specs.Numbers.{same_node}
-use Rattle.lrc_code.specs.Codes.{fragments}
+use Rattle.lrc_code.specs.Codes.{fragments, all_fragments}
 use Rattle.lrc_topology.specs.declared.NodeInfo.{NodeInfo}
 use Rattle.lrc_topology.specs.Nodes.{node_at}
 use Rattle.lrc_terms.specs.Levels.{homes_of}
@@ -33,7 +32,7 @@ stripes_of st = filter (has_stripe st) stripe_numbers
 
 -- every fragment of every stripe number, in rising order of stripe and fragment
 abbrev pub places : List StripeFragment
-places = flat_map (λ s. map (λ f. (s, f)) (fragments Wide)) stripe_numbers
+places = flat_map (λ s. map (λ f. (s, f)) all_fragments) stripe_numbers
 
 -- the fragment has a home on the node
 abbrev pub is_home_on : State → NodeNo → StripeFragment → Bool

@@ -3,10 +3,9 @@
 ghost use Rattle.std.specs.Prelude.{◌≡◌, ◌+◌, ◌<◌, ◌≤◌, ◌↔◌, ◌++◌, [], true, nat_lt, length, List, map, None, IsTrue, IsFalse, IsNone, IfOk, IfErr, IfSome, OnOk, OnErr, IsErrOf};
 ghost use Rattle.std.specs.List.{list_any};
 ghost use Rattle.lrc_code.specs.declared.fault.Fault.TheVariants as fault;
-ghost use Rattle.lrc_code.specs.declared.codes.Code.TheVariants.{Wide};
 ghost use Rattle.lrc_code.specs.declared.numbers.StripeNo.{StripeNo};
 ghost use Rattle.lrc_code.specs.declared.numbers.Fragment.{Fragment};
-ghost use Rattle.lrc_code.specs.Codes.{fragments};
+ghost use Rattle.lrc_code.specs.Codes.{all_fragments};
 ghost use Rattle.lrc_leases.specs.Granted.{granted_in};
 ghost use Rattle.lrc_rules.specs.declared.entry.Entry.{Entry};
 ghost use Rattle.lrc_rules.specs.States.{State};
@@ -252,7 +251,7 @@ fn has_any(counts: &[u32; FRAGMENTS]) -> bool
 
 /// The number of leases granted for each fragment of a stripe number.
 fn counts_of(grants: &Grants, stripe: StripeNo) -> [u32; FRAGMENTS]
-    ensures { result ≡ map (λ f. granted_in grants.now stripe f) (fragments Wide) }
+    ensures { result ≡ map (λ f. granted_in grants.now stripe f) all_fragments }
 {
     let mut counts = [0; FRAGMENTS];
     for fragment in Fragment::all() {

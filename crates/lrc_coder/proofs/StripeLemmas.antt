@@ -8,9 +8,9 @@ use Rattle.std.proofs.Math.ListN.{length-append}
 use Rattle.std.proofs.lemmas.List.{get_or-map, get_or-set_same, get_or-set_other, get_or_append_left, get_or-append_right, get_or_past, length-map, get_or-append-add}
 use Rattle.lrc_code.specs.declared.codes.Code.{Code}
 use Rattle.lrc_code.specs.declared.codes.Code.TheVariants.{Wide, Narrow}
-use Rattle.lrc_code.specs.Codes.{fragment_count}
+use Rattle.lrc_code.specs.Codes.{fragment_count, data_count}
 use Rattle.lrc_field.specs.Field.{times}
-use Rattle.lrc_field.specs.Stripes.{Bytes, IsRow, IsStripe, data_count, data_of, numbers_of, in_parity, generator, sum_of}
+use Rattle.lrc_field.specs.Stripes.{Bytes, IsRow, IsStripe, data_of, numbers_of, in_parity, generator, sum_of}
 use Rattle.lrc_field.specs.Recipes.{read_by}
 use Rattle.lrc_field.proofs.SumLemmas.{sum_of-agree}
 use Rattle.lrc_coder.specs.Buffers.{written_buffers, buffer_at, bytes_at, each_of}

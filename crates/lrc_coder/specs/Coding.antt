@@ -1,9 +1,9 @@
 -- What is encoded and rebuilt, and which buffers are refused.
 use Rattle.std.specs.Prelude.{◌≡◌, ◌≢◌, ℕ, ◌<◌, ◌≤◌, ◌⊎◌, List, length, ◌++◌, get_or, IsTrue}
 use Rattle.lrc_code.specs.declared.codes.Code.{Code}
-use Rattle.lrc_code.specs.Codes.{fragment_count}
+use Rattle.lrc_code.specs.Codes.{fragment_count, data_count}
 use Rattle.lrc_code.specs.Losses.{FragmentSet}
-use Rattle.lrc_field.specs.Stripes.{Bytes, IsStripe, data_count}
+use Rattle.lrc_field.specs.Stripes.{Bytes, IsStripe}
 use Rattle.lrc_field.specs.Recipes.{IsRecipe, read_by, only_itself}
 use Rattle.lrc_coder.specs.Buffers.{buffer_at, bytes_at, each_of, AreLong, IsSum}
 use Rattle.lrc_coder.specs.declared.error.CodingError.{CodingError}

@@ -1,8 +1,8 @@
 -- The generator matrix as one list.
 use Rattle.std.specs.Prelude.{◌≡◌, ℕ, ◌*◌, ◌/◌, ◌%◌, ◌<◌, ◌≤◌, List, length, get_or}
 use Rattle.lrc_code.specs.declared.codes.Code.{Code}
-use Rattle.lrc_code.specs.Codes.{fragment_count}
-use Rattle.lrc_field.specs.Stripes.{data_count, generator}
+use Rattle.lrc_code.specs.Codes.{fragment_count, data_count}
+use Rattle.lrc_field.specs.Stripes.{generator}
 
 -- the number of coefficients
 abbrev pub matrix_count : Code → ℕ

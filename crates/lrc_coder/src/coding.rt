@@ -1,7 +1,7 @@
 ghost use Rattle.std.specs.Prelude.{◌≡◌, ◌≢◌, ℕ, ◌<◌, length, get_or, ◌++◌, map, IfErr, OnOk, IfSome, IfNone, IsTrue};
-ghost use Rattle.lrc_code.specs.Codes.{fragment_count};
+ghost use Rattle.lrc_code.specs.Codes.{fragment_count, data_count};
 ghost use Rattle.lrc_code.specs.Losses.{FragmentSet};
-ghost use Rattle.lrc_field.specs.Stripes.{Bytes, IsStripe, data_count, data_of, in_parity, sum_of};
+ghost use Rattle.lrc_field.specs.Stripes.{Bytes, IsStripe, data_of, in_parity, sum_of};
 ghost use Rattle.lrc_field.specs.Recipes.{IsRecipe, read_by};
 ghost use Rattle.lrc_coder.specs.Buffers.{read, written_buffers, buffer_addresses, buffer_at, bytes_at, each_of, AreLong, IsSum};
 ghost use Rattle.lrc_coder.specs.Coding.{AreCounted, AreEven, AreOwn, IsForeign, IsEncoded, IsRebuilt, IsEncodeRefusal, IsRebuildRefusal};

@@ -1,6 +1,6 @@
 ghost use Rattle.std.specs.Prelude.{◌≡◌, ◌<◌, ◌≤◌};
-ghost use Rattle.lrc_code.specs.Codes.{fragment_count};
-ghost use Rattle.lrc_field.specs.Stripes.{data_count as data_count_of, generator};
+ghost use Rattle.lrc_code.specs.Codes.{fragment_count, data_count as data_count_of};
+ghost use Rattle.lrc_field.specs.Stripes.{generator};
 ghost use Rattle.lrc_coder.specs.Matrices.{matrix_count as matrix_count_of, IsMatrix};
 
 use crate::PARITIES;

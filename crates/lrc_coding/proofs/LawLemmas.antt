@@ -9,7 +9,7 @@ use Rattle.std.proofs.lemmas.List.Elements.{All-weaker, filter-append, filter_pa
 use Rattle.lrc_code.specs.declared.codes.Code.{Code}
 use Rattle.lrc_code.specs.declared.codes.Code.TheVariants.{Wide, Narrow}
 use Rattle.lrc_code.specs.declared.numbers.Fragment.{Fragment}
-use Rattle.lrc_code.specs.Codes.{fragments, fragment_count}
+use Rattle.lrc_code.specs.Codes.{all_fragments, fragment_count}
 use Rattle.lrc_code.specs.Losses.{FragmentSet, bits_set}
 use Rattle.lrc_code.proofs.NumbersLemmas.{equal_fragments}
 use Rattle.lrc_field.specs.declared.recipes.Recipe.{Recipe}
@@ -70,7 +70,7 @@ module _ (c : ℕ → ℕ) where
   pub enough : (code : Code) (m : FragmentSet) (f : ℕ) (v : Bytes) → IsRecipe code m f c → IsStripe code v → v f ≡ sum_of c v (map (λ g. g.value) (fragments_read c))
   enough code m f v is stripe =
       is.exact v stripe ∙ read_alone v stripe.bytes (numbers_of code)
-      ∙ ap (sum_of c v) (sym (values (fragments Wide) ∙ read_numbers code m f is))
+      ∙ ap (sum_of c v) (sym (values all_fragments ∙ read_numbers code m f is))
 
   -- ---- which are read
 
@@ -82,7 +82,7 @@ module _ (c : ℕ → ℕ) where
       let parts = and_parts (not (m g.value)) (not (nat_eq g.value f)) (is.standing g.value hit) in
       let away : g.value ≢ f = λ same. let never : true ≡ false = sym (eq-eqb g.value f same) ∙ not-true (nat_eq g.value f) parts.1 in absurd (cc) in
       (is.within g.value hit, (not-true (m g.value) parts.0, away)))
-      (fragments_read c) (filter_passes (λ (g : Fragment). read_by c g.value) (fragments Wide))
+      (fragments_read c) (filter_passes (λ (g : Fragment). read_by c g.value) all_fragments)
 
   -- what is not missing determines a fragment that has a recipe
   pub determined : (code : Code) (m : FragmentSet) (f : ℕ) → IsRecipe code m f c → Determines code (outside m) f

@@ -7,8 +7,8 @@ use Rattle.std.proofs.lemmas.Bool.{ne_eqb, lt-ltb, le-ltb}
 use Rattle.lrc_code.specs.declared.codes.Code.{Code}
 use Rattle.lrc_code.specs.declared.codes.Code.TheVariants.{Wide, Narrow}
 use Rattle.lrc_code.specs.declared.numbers.Fragment.{Fragment}
-use Rattle.lrc_code.specs.Codes.{fragments, fragment_count, has_fragment}
-use Rattle.lrc_field.specs.Stripes.{data_count, data_of, generator, IsRow}
+use Rattle.lrc_code.specs.Codes.{all_fragments, fragment_count, has_fragment, data_count}
+use Rattle.lrc_field.specs.Stripes.{data_of, generator, IsRow}
 use Rattle.lrc_coding.specs.Told.{bytes_line, matrix_line, matrix_text}
 
 -- ---- words with a byte between
@@ -68,14 +68,14 @@ row_bytes Narrow f row is = firsts (generator Narrow f) row 6 0 (let long = is.l
 abbrev pub own_line : Code → Fragment → List ℕ
 own_line code f = if has_fragment code f.value then matrix_line code f.value else []
 
-pub matrix-all : (code : Code) → flat_map (own_line code) (fragments Wide) ≡ matrix_text code
+pub matrix-all : (code : Code) → flat_map (own_line code) all_fragments ≡ matrix_text code
 matrix-all Wide = refl
 matrix-all Narrow = refl
 
-pub line-more : (of : Fragment → List ℕ) (items : List Fragment) (i : ℕ) (d : Fragment) (start old new : List ℕ) → items ≡ fragments Wide → i < 16
-    → old ≡ start ++ flat_map of (take i (fragments Wide)) → new ≡ old ++ of (get_or items i d) → new ≡ start ++ flat_map of (take (i + 1) (fragments Wide))
+pub line-more : (of : Fragment → List ℕ) (items : List Fragment) (i : ℕ) (d : Fragment) (start old new : List ℕ) → items ≡ all_fragments → i < 16
+    → old ≡ start ++ flat_map of (take i all_fragments) → new ≡ old ++ of (get_or items i d) → new ≡ start ++ flat_map of (take (i + 1) all_fragments)
 line-more of items i d start old new all within so_far next =
-    next ∙ ap (λ t. t ++ of (get_or items i d)) so_far ∙ append_assoc start (flat_map of (take i (fragments Wide))) (of (get_or items i d))
+    next ∙ ap (λ t. t ++ of (get_or items i d)) so_far ∙ append_assoc start (flat_map of (take i all_fragments)) (of (get_or items i d))
     ∙ ap (λ (fs : List Fragment). start ++ (flat_map of (take i fs) ++ of (get_or items i d))) (sym all)
     ∙ ap (λ t. start ++ t) (sym (
     ap (flat_map of) (take_more items i d (subst (λ (fs : List Fragment). i < length fs) (sym all) within)) ∙ flat_map-append of (take i items) (get_or items i d ∷ [])

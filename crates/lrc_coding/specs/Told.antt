@@ -3,9 +3,8 @@ use Rattle.std.specs.Prelude.{ℕ, ◌/◌, ◌%◌, false, List, [], ◌∷◌,
 use Rattle.std.specs.List.{join_with_byte}
 use Rattle.std.specs.Fmt.{digit_glyph}
 use Rattle.lrc_code.specs.declared.codes.Code.{Code}
-use Rattle.lrc_code.specs.declared.codes.Code.TheVariants.{Wide}
 use Rattle.lrc_code.specs.declared.numbers.Fragment.{Fragment}
-use Rattle.lrc_code.specs.Codes.{fragments}
+use Rattle.lrc_code.specs.Codes.{fragments, all_fragments}
 use Rattle.lrc_field.specs.Recipes.{read_by}
 use Rattle.lrc_field.specs.Stripes.{generator, data_of, numbers_of}
 use Rattle.lrc_coding.specs.declared.refusal.RecipeRefusal.{RecipeRefusal}
@@ -16,7 +15,7 @@ pub use Rattle.lrc_coding.specs.Answers.{coefficient_in}
 
 -- the fragments that are read, in rising order
 abbrev pub fragments_read : (ℕ → ℕ) → List Fragment
-fragments_read coefficient = filter (λ g. read_by coefficient g.value) (fragments Wide)
+fragments_read coefficient = filter (λ g. read_by coefficient g.value) all_fragments
 
 -- the row of a fragment that is read
 abbrev pub source_row : (ℕ → ℕ) → Fragment → List ℕ

@@ -8,10 +8,10 @@ use Rattle.lrc_code.specs.declared.codes.Code.TheVariants.{Wide, Narrow}
 use Rattle.lrc_code.specs.declared.numbers.StripeNo.{StripeNo}
 use Rattle.lrc_code.specs.declared.numbers.SessionNo.{SessionNo}
 use Rattle.lrc_code.specs.declared.numbers.Fragment.{Fragment}
-use Rattle.lrc_code.specs.Codes.{fragment_count, has_fragment, others}
+use Rattle.lrc_code.specs.Codes.{fragment_count, has_fragment, others, data_count}
 use Rattle.lrc_code.specs.Losses.{FragmentSet, is_local, size_of}
 use Rattle.lrc_code.proofs.LossesLemmas.{by_test}
-use Rattle.lrc_field.specs.Stripes.{data_count, outside, Determines}
+use Rattle.lrc_field.specs.Stripes.{outside, Determines}
 use Rattle.lrc_field.specs.Recipes.{readable}
 use Rattle.lrc_field.proofs.NearLemmas.{is_beside, alone_from}
 use Rattle.lrc_field.proofs.DecodableLemmas.{decodable}

@@ -6,9 +6,9 @@ use Rattle.std.proofs.lemmas.Bool.{cases_Bool, and_parts, and_from, not-true, eq
 use Rattle.lrc_code.specs.declared.codes.Code.{Code}
 use Rattle.lrc_code.specs.declared.codes.Code.TheVariants.{Wide, Narrow}
 use Rattle.lrc_code.specs.declared.numbers.Fragment.{Fragment}
-use Rattle.lrc_code.specs.Codes.{fragments, fragment_count, class_of, are_one_class, is_local_class, is_in_group, others}
+use Rattle.lrc_code.specs.Codes.{fragments, fragment_count, class_of, are_one_class, is_local_class, is_in_group, others, data_count}
 use Rattle.lrc_code.specs.Losses.{FragmentSet, is_local, size_of}
-use Rattle.lrc_field.specs.Stripes.{data_count, Determines}
+use Rattle.lrc_field.specs.Stripes.{Determines}
 use Rattle.lrc_field.specs.Weights.{local_weights}
 use Rattle.lrc_field.proofs.NearLemmas.{is_beside, IsAlone}
 use Rattle.lrc_field.proofs.DecodableLemmas.{rebuilds_local, determined}

@@ -4,9 +4,9 @@ ghost use Rattle.std.specs.Prelude.{◌≡◌, ◌≢◌, ◌↔◌, ℕ, ◌+�
 ghost use Rattle.lrc_code.specs.declared.numbers.StripeNo.{StripeNo};
 ghost use Rattle.lrc_code.specs.declared.numbers.SessionNo.{SessionNo};
 ghost use Rattle.lrc_code.specs.declared.numbers.Fragment.{Fragment};
-ghost use Rattle.lrc_code.specs.Codes.{fragment_count};
+ghost use Rattle.lrc_code.specs.Codes.{fragment_count, data_count};
 ghost use Rattle.lrc_code.specs.Losses.{FragmentSet, size_of};
-ghost use Rattle.lrc_field.specs.Stripes.{Bytes, data_count, outside, Determines, IsDecodable, AreAlikeOutside};
+ghost use Rattle.lrc_field.specs.Stripes.{Bytes, outside, Determines, IsDecodable, AreAlikeOutside};
 ghost use Rattle.lrc_field.specs.Stripes.{StaysDecodable, AreTooMany};
 ghost use Rattle.lrc_field.specs.Recipes.{IsRecipe};
 ghost use Rattle.lrc_topology.specs.declared.NodeInfo.{NodeInfo};

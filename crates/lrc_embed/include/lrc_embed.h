@@ -7,8 +7,8 @@
 //
 // Every function but lrc_embed_version and lrc_embed_rules_version returns a status. It writes its results only if the
 // status is LRC_DONE. lrc_embed_open, lrc_embed_open_image and lrc_embed_replay also write where they stopped, and the
-// functions that return LRC_SHORT write how much room they need, and lrc_embed_forecast `is_safe` then too, as their comments
-// say. Nothing else is written.
+// functions that return LRC_SHORT write how much room they need, and those of a forecast `is_safe` then too, as their comments
+// say. lrc_embed_read_command writes the cause of a bad line. Nothing else is written.
 //
 // What the caller owes, since nothing checks C:
 // - The library is that of this header. Compare lrc_embed_version() with LRC_EMBED_VERSION before any other call.
@@ -39,7 +39,7 @@ extern "C" {
 // The version of the interface, which rises with every change of what this header declares: with each function, struct, field
 // and number that is new or means something else. lrc_embed_version() returns that of the library. Compare them at the start,
 // and go on only if they are the same. An lrc_entry has one layout in all versions, so that saved ones stay readable.
-#define LRC_EMBED_VERSION 4
+#define LRC_EMBED_VERSION 5
 
 // The version of the rules: of what each command returns and changes. lrc_embed_rules_version() returns that of the library.
 // A log replays alike in all libraries of one version of the rules. In those of another one a reply may differ, and an image
@@ -89,7 +89,8 @@ enum lrc_status {
     LRC_TOO_MANY = 21,          // more than 512 nodes
 
     // lrc_embed_open_image: why no book begins in the image; detail: the number of a line of its text, from 1
-    LRC_BAD_LINE = 22,      // the first line that may not come where it stands, or is missing
+    LRC_BAD_LINE = 22,      // the first line that may not come where it stands, or is missing; of lrc_embed_read_command: the
+                            // line is no command's; cause: an lrc_line_cause
     LRC_INVALID_IMAGE = 23, // the first line that the nodes or the lines before it do not allow; cause: an lrc_cause
 };
 
@@ -112,6 +113,15 @@ enum lrc_cause {
     LRC_CAUSE_UNKNOWN_STRIPE = 14,  // `lease`: the image has no such stripe
     LRC_CAUSE_NEVER_GRANTED = 15,   // `lease`: the count of its fragment is 0
     LRC_CAUSE_WRONG_EXPIRY = 16,    // `lease`: the expiry is not one of the three numbers after the clock
+};
+
+// Why a line of a script is bad. docs/FORMATS.md has the order in which they are asked.
+enum lrc_line_cause {
+    LRC_LINE_UNKNOWN_WORD = 1, // the first word is not that of a command
+    LRC_LINE_WORD_COUNT = 2,   // the command takes another number of words
+    LRC_LINE_NOT_A_NUMBER = 3, // an argument is not a number
+    LRC_LINE_OUT_OF_RANGE = 4, // an argument is a number that is out of its range
+    LRC_LINE_TOO_LONG = 5,     // the line has more than 1,024 bytes
 };
 
 // A handle. All zeros is a closed one. Do not read its fields.
@@ -319,6 +329,19 @@ typedef struct {
     uint8_t reserved[3];
 } lrc_node;
 
+// The tables of a book, which `lrcman show` prints. docs/FORMATS.md has their columns.
+enum lrc_view {
+    LRC_SHOW_STATUS = 1,          // a summary in names and values
+    LRC_SHOW_STRIPES = 2,         // each stripe with its level, its missing fragments and its homes
+    LRC_SHOW_NODES = 3,           // each node with its domains, its mode and its seats
+    LRC_SHOW_LEASES = 4,          // each live lease
+    LRC_SHOW_WORK = 5,            // each fragment that needs a lease, in the order of repair
+    LRC_SHOW_FRAGMENTS = 6,       // each fragment of each stripe, with its home and its live lease
+    LRC_SHOW_DOMAINS_FAULT = 7,   // each fault domain, with the levels after its loss
+    LRC_SHOW_DOMAINS_UPGRADE = 8, // each upgrade domain, with the levels after its stop
+    LRC_SHOW_HEALTH = 9,          // each reason why not all is well
+};
+
 // What happens to nodes.
 enum lrc_outage {
     LRC_STOP = 1, // they go offline, with what is on them, as by LRC_DOWN
@@ -498,8 +521,10 @@ uint32_t lrc_embed_open_image(lrc_handle *handle, const uint8_t *nodes, size_t n
 
 // Makes one command. DONE, also if the reply is a refusal; IS_CLOSED, OUT_OF_RANGE, FULL or OUT_OF_MEMORY, and then the
 // history is as it was. After DONE the history has one more entry: this session, command and reply. To save it, take it
-// from lrc_embed_entry, at the count less 1: the command that was passed may differ from it in bytes.
+// from lrc_embed_call_entry, or from lrc_embed_entry, at the count less 1: the command that was passed may differ from it in bytes.
 uint32_t lrc_embed_call(lrc_handle *handle, uint8_t session, const lrc_command *command, lrc_reply *reply);
+// The same, with the whole entry as its result, as lrc_embed_entry would return it.
+uint32_t lrc_embed_call_entry(lrc_handle *handle, uint8_t session, const lrc_command *command, lrc_entry *entry);
 
 // The same, if the store has made `place` entries so far: if lrc_embed_before plus lrc_embed_count is `place`, so that the
 // entry becomes number `place` + 1 of the store. Else MOVED, and nothing changes. So a caller that decided by what it read at
@@ -512,6 +537,8 @@ uint32_t lrc_embed_call_at(lrc_handle *handle, uint64_t place, uint8_t session, 
 // is a refusal; IS_CLOSED, OUT_OF_RANGE or FULL, exactly if the call would return it. The reply holds until the next entry.
 // A worker peeks at LRC_NEXT, and makes the call only if the reply is LRC_GRANTED.
 uint32_t lrc_embed_peek(lrc_handle *handle, uint8_t session, const lrc_command *command, lrc_reply *reply);
+// The same, with the whole entry that lrc_embed_call would add now as its result.
+uint32_t lrc_embed_peek_entry(lrc_handle *handle, uint8_t session, const lrc_command *command, lrc_entry *entry);
 
 // Makes the commands of `count` saved entries after the history that the book has, and compares each reply. After DONE the
 // history also has these entries. With any other status the handle is closed and the book is freed; and, except for
@@ -607,11 +634,37 @@ uint32_t lrc_embed_entries(lrc_handle *handle, uint64_t place, lrc_entry *rows, 
 uint32_t lrc_embed_forecast(lrc_handle *handle, uint8_t outage, const uint16_t *nodes, size_t nodes_length,
                             lrc_outlook *rows, size_t length, size_t *count, uint8_t *is_safe);
 
-// A word for a status, a kind of reply or a refusal: ASCII letters and spaces, at most 24, with no zero at the end. DONE, with
-// `*length` bytes; UNKNOWN if the number has none; or SHORT if there is room for less, and then only `length` is written.
+// The texts, which are those of lrcman to the byte. Each is written from the start of a buffer, with no zero at the end: DONE, with
+// `*length` bytes; or SHORT if there is room for less, and then only `length` is written, the bytes that it needs.
+// A table of the book: `view` is an lrc_view. IS_CLOSED, OUT_OF_RANGE if there is no such table, or OUT_OF_MEMORY.
+uint32_t lrc_embed_show(lrc_handle *handle, uint8_t view, uint8_t *text, size_t room, size_t *length);
+// The table of a forecast, with `is_safe` and statuses as of lrc_embed_forecast.
+uint32_t lrc_embed_forecast_table(lrc_handle *handle, uint8_t outage, const uint16_t *nodes, size_t nodes_length, uint8_t *text,
+                                  size_t room, size_t *length, uint8_t *is_safe);
+// The line that `lrcman run` prints of the entry at an index, from 0: its number in the store, its reply, and LF; at most 220
+// bytes. IS_CLOSED, UNKNOWN, OUT_OF_MEMORY, or FULL if lrc_embed_before is above 9,223,372,036,854,775,808.
+uint32_t lrc_embed_reply_line(lrc_handle *handle, size_t index, uint8_t *text, size_t room, size_t *length);
+// The line of a command in a script, without LF: at most 26 bytes. OUT_OF_RANGE if it is no command, or OUT_OF_MEMORY.
+uint32_t lrc_embed_command_line(const lrc_command *command, uint8_t *text, size_t room, size_t *length);
+// The command of a line of a script, which is given without its LF. DONE; UNKNOWN if the line is empty or a comment; or BAD_LINE,
+// and then only `cause` is written, an lrc_line_cause. No memory is requested.
+uint32_t lrc_embed_read_command(const uint8_t *line, size_t length, lrc_command *command, uint32_t *cause);
+
+// A word for a number: of a status, a kind of reply, a refusal, a kind of level or of mode, a code, or a kind of repair. ASCII
+// letters and spaces, at most 24, with no zero at the end. DONE, with `*length` bytes; UNKNOWN if the number has none; or SHORT if
+// there is room for less, and then only `length` is written.
 uint32_t lrc_embed_status_name(uint32_t status, uint8_t *text, size_t room, size_t *length);
 uint32_t lrc_embed_reply_name(uint8_t kind, uint8_t *text, size_t room, size_t *length);
 uint32_t lrc_embed_refusal_name(uint8_t refusal, uint8_t *text, size_t room, size_t *length);
+uint32_t lrc_embed_level_name(uint8_t kind, uint8_t *text, size_t room, size_t *length);
+uint32_t lrc_embed_mode_name(uint8_t kind, uint8_t *text, size_t room, size_t *length);
+uint32_t lrc_embed_code_name(uint8_t code, uint8_t *text, size_t room, size_t *length);
+uint32_t lrc_embed_repair_name(uint8_t repair, uint8_t *text, size_t room, size_t *length);
+// The words of lrcman for a refusal, in the same way, at most 80 bytes: for an lrc_line_cause; for an lrc_cause; and for a status
+// from SYNTAX to TOO_MANY.
+uint32_t lrc_embed_line_words(uint32_t cause, uint8_t *text, size_t room, size_t *length);
+uint32_t lrc_embed_cause_words(uint32_t cause, uint8_t *text, size_t room, size_t *length);
+uint32_t lrc_embed_nodes_words(uint32_t status, uint8_t *text, size_t room, size_t *length);
 
 // The bytes of a stripe. These functions take no handle, and no memory is requested: any threads may call them at once.
 // docs/CODING.md says how a worker uses them.

@@ -6,3 +6,4 @@ pub mod ReplayLemmas
 pub mod Rows
 pub mod Values
 pub mod WalkLemmas
+pub mod PrintedLemmas

@@ -5,6 +5,11 @@ pub use Rattle.lrc_rules.specs.Histories
 pub use Rattle.lrc_images.specs.Rows
 pub use Rattle.lrc_book.specs.Books
 pub use Rattle.lrc_book.specs.Looks
+pub use Rattle.lrc_script.specs.Scripts
+pub use Rattle.lrc_text.specs.Tables
+pub use Rattle.lrc_text.specs.Texts
+pub use Rattle.lrc_show.specs.Shown as ShownTables
+pub use Rattle.lrc_refusals.specs.Refusals
 pub use Rattle.lrc_openings.specs.Begun
 pub use Rattle.lrc_openings.specs.ImageTexts
 pub use Rattle.lrc_forecast.specs.Forecasts
@@ -17,8 +22,10 @@ pub use Rattle.lrc_walks.specs.WalkRows
 pub mod Handles
 pub mod Statuses
 pub mod Calls
+pub mod Entries
 pub mod Walks
 pub mod Names
+pub mod Printed
 pub mod Replays
 pub mod Recipes
 pub mod Coded

@@ -1,13 +1,16 @@
 //! The functions that C calls. Each returns a status, and writes its result only if that is `DONE`. With another status
-//! `lrc_embed_open`, `lrc_embed_open_image` and `lrc_embed_replay` may write where a text or an entry was refused. With
-//! `SHORT` the room that is needed is written, and `lrc_embed_forecast` writes `safe` too.
+//! `lrc_embed_open`, `lrc_embed_open_image` and `lrc_embed_replay` may write where a text or an entry was refused, and
+//! `lrc_embed_read_command` why a line was. With `SHORT` the room that is needed is written, and the forecasts write
+//! `safe` too.
 
 mod call;
 mod coding;
+mod entries;
 mod forecast;
 mod forget;
 mod history;
 mod image;
+mod lines;
 mod looks;
 mod names;
 mod open;
@@ -17,4 +20,6 @@ mod recipe;
 mod recipes;
 mod replay;
 mod risk;
+mod tables;
 mod walks;
+mod words;

@@ -5,12 +5,12 @@ use Rattle.std.proofs.lemmas.Bool.{cases_Bool, cases_lt, cases_eq, eqb-true, eq-
 use Rattle.lrc_code.specs.declared.codes.Code.{Code}
 use Rattle.lrc_code.specs.declared.codes.Class.{Class}
 use Rattle.lrc_code.specs.declared.codes.Class.TheVariants.{A, B, G}
-use Rattle.lrc_code.specs.Codes.{fragment_count, members}
+use Rattle.lrc_code.specs.Codes.{fragment_count, members, data_count}
 use Rattle.lrc_code.specs.Losses.{FragmentSet, IsRecoverable, excess, losses_in, size_of, joined}
 use Rattle.lrc_code.proofs.LossesLemmas.{by_counts, members-below, size_of-classes, losses_in-within}
 use Rattle.lrc_code.proofs.SubsetsLemmas.{count_by-within}
 use Rattle.lrc_code.proofs.SizeLemmas.{recoverable_four}
-use Rattle.lrc_field.specs.Stripes.{Bytes, IsStripe, data_count, outside, Determines, IsDecodable}
+use Rattle.lrc_field.specs.Stripes.{Bytes, IsStripe, outside, Determines, IsDecodable}
 use Rattle.lrc_field.proofs.MemberLemmas.{only, only_one, size_of-outside, four_parities}
 use Rattle.lrc_field.proofs.LeftOutLemmas.{IsNear, near-within, losses-one_more}
 use Rattle.lrc_field.proofs.DecodableLemmas.{decodable, except}

@@ -5,9 +5,9 @@ use Rattle.std.proofs.lemmas.Bool.{cases_Bool, cases_lt, lt-ltb, le-ltb, ltb-tru
 use lib.Bits.{xor_lt, xor_zero_r}
 use Rattle.lrc_code.specs.declared.codes.Code.{Code}
 use Rattle.lrc_code.specs.declared.codes.Code.TheVariants.{Wide, Narrow}
-use Rattle.lrc_code.specs.Codes.{fragment_count}
+use Rattle.lrc_code.specs.Codes.{fragment_count, data_count}
 use Rattle.lrc_field.specs.Field.{times, times_by, times_x}
-use Rattle.lrc_field.specs.Stripes.{Bytes, data_count, data_of, in_parity, generator, sum_of, IsStripe, IsOfRows}
+use Rattle.lrc_field.specs.Stripes.{Bytes, data_of, in_parity, generator, sum_of, IsStripe, IsOfRows}
 use Rattle.lrc_field.proofs.FieldLemmas.{times_below, zero_times}
 use Rattle.lrc_field.proofs.MemberLemmas.{four_parities}
 use Rattle.lrc_field.proofs.ValueLemmas.{once, rest, singled, sums_agree}

@@ -8,7 +8,7 @@ use Rattle.lrc_code.specs.declared.codes.Code.TheVariants.{Wide, Narrow}
 use Rattle.lrc_code.specs.declared.codes.Class.{Class}
 use Rattle.lrc_code.specs.declared.codes.Class.TheVariants.{A, B, G}
 use Rattle.lrc_code.specs.declared.numbers.Fragment.{Fragment}
-use Rattle.lrc_code.specs.Codes.{fragments, members, class_of, are_one_class}
+use Rattle.lrc_code.specs.Codes.{all_fragments, members, class_of, are_one_class}
 use Rattle.lrc_code.specs.Losses.{FragmentSet}
 use Rattle.lrc_field.specs.Weights.{lost_in, first_or, but, out_of_a, out_of_b, spare, third_out}
 use Rattle.lrc_field.proofs.SublistLemmas.{filter_but}
@@ -27,7 +27,7 @@ same_filter : (t u : Fragment → Bool) → ((f : Fragment) → t f ≡ u f) →
 same_filter t u same [] = refl
 same_filter t u same (x ∷ xs) = rw (same x, same_filter t u same xs) refl
 
-class_listed : (code : Code) (c : Class) → map (λ (f : Fragment). f.value) (filter (λ f. are_one_class (Some c) (class_of code f.value)) (fragments Wide)) ≡ members code c
+class_listed : (code : Code) (c : Class) → map (λ (f : Fragment). f.value) (filter (λ f. are_one_class (Some c) (class_of code f.value)) all_fragments) ≡ members code c
 class_listed Wide A = refl
 class_listed Wide B = refl
 class_listed Wide G = refl
@@ -36,10 +36,10 @@ class_listed Narrow B = refl
 class_listed Narrow G = refl
 
 -- the first fragment that is lost and of the class
-pub first_member : (code : Code) (c : Class) (t : Fragment → Bool) (m : ℕ → Bool) (other : Fragment) → ((f : Fragment) → t f ≡ are_one_class (Some c) (class_of code f.value)) → (unwrap_or (find (λ f. t f && m f.value) (fragments Wide)) other).value ≡ first_or (lost_in code c m) other.value
+pub first_member : (code : Code) (c : Class) (t : Fragment → Bool) (m : ℕ → Bool) (other : Fragment) → ((f : Fragment) → t f ≡ are_one_class (Some c) (class_of code f.value)) → (unwrap_or (find (λ f. t f && m f.value) all_fragments) other).value ≡ first_or (lost_in code c m) other.value
 first_member code c t m other same =
-    first_found t m other (fragments Wide)
-    ∙ ap (λ (l : List Fragment). first_or (filter m (map (λ f. f.value) l)) other.value) (same_filter t (λ f. are_one_class (Some c) (class_of code f.value)) same (fragments Wide))
+    first_found t m other all_fragments
+    ∙ ap (λ (l : List Fragment). first_or (filter m (map (λ f. f.value) l)) other.value) (same_filter t (λ f. are_one_class (Some c) (class_of code f.value)) same all_fragments)
     ∙ ap (λ l. first_or (filter m l) other.value) (class_listed code c)
 
 -- the third fragment that is left out
@@ -54,5 +54,5 @@ third_found code m m_a m_b f x y g s t is_x is_y of_a of_b is_g is_s is_t =
     ∙ ap (first_or (but (out_of_a code la) la)) (is_s ∙ ap (λ l. first_or l g) (filter_but m_b m y of_b (members code B)) ∙ ap (λ n. first_or (but n lb) g) is_y ∙ ap (first_or (but (out_of_b code lb) lb)) is_g)
 
 -- the number of the fragment at a place of the array of all
-pub item_number : (items : List Fragment) (i : ℕ) (d : Fragment) → items ≡ fragments Wide → i < 16 → (get_or items i d).value ≡ i
-item_number items i d all within = rw all (sym (get_or-map (λ (f : Fragment). f.value) (fragments Wide) i d 0 within) ∙ (get_or-range_with_len 0 16 i 0 within ∙ zero-add i))
+pub item_number : (items : List Fragment) (i : ℕ) (d : Fragment) → items ≡ all_fragments → i < 16 → (get_or items i d).value ≡ i
+item_number items i d all within = rw all (sym (get_or-map (λ (f : Fragment). f.value) all_fragments i d 0 within) ∙ (get_or-range_with_len 0 16 i 0 within ∙ zero-add i))

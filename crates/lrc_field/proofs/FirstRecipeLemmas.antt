@@ -4,10 +4,10 @@ use Rattle.std.proofs.lemmas.Bool.{cases_Bool, eqb-true, eq-eqb, and_parts, and_
 use lib.Bits.{xor_self, xor_zero_r, xor_lt}
 use Rattle.lrc_code.specs.declared.codes.Code.{Code}
 use Rattle.lrc_code.specs.declared.numbers.Fragment.{Fragment}
-use Rattle.lrc_code.specs.Codes.{fragment_count, other_count}
+use Rattle.lrc_code.specs.Codes.{fragment_count, data_count, group_size}
 use Rattle.lrc_code.specs.Losses.{FragmentSet, size_of, is_local}
 use Rattle.lrc_field.specs.Field.{times, inverse}
-use Rattle.lrc_field.specs.Stripes.{Bytes, IsStripe, Determines, data_count, numbers_of, sum_of}
+use Rattle.lrc_field.specs.Stripes.{Bytes, IsStripe, Determines, numbers_of, sum_of}
 use Rattle.lrc_field.specs.Recipes.{read_by, readable, IsRecipe, IsFirstRecipe}
 use Rattle.lrc_field.proofs.FieldLemmas.{xor_twice, times_zero, inverse_below, inverse_times}
 use Rattle.lrc_field.proofs.SumLemmas.{sum_of-times, sum_of-xor}
@@ -40,7 +40,7 @@ as_many code m f c d is_c is_d =
     let ge = at_most code m f d c is_d is_c in
     omega (arith, le, ge)
 
-pub recipe_reads : (code : Code) (m : FragmentSet) (f : Fragment) (c : ℕ → ℕ) → f.value < fragment_count code → IsRecipe code m f.value c → size_of code (read_by c) ≡ (if is_local code m f then other_count code else data_count code)
+pub recipe_reads : (code : Code) (m : FragmentSet) (f : Fragment) (c : ℕ → ℕ) → f.value < fragment_count code → IsRecipe code m f.value c → size_of code (read_by c) ≡ (if is_local code m f then group_size code else data_count code)
 recipe_reads code m f c within is =
     let other = made code m f within (determines_by code m f (c, is)) in
     as_many code m f.value c other.c is other.is.recipe.recipe ∙ other.is.reads

@@ -6,9 +6,9 @@ use lib.Bits.{xor_lt}
 use Rattle.lrc_code.specs.declared.codes.Code.{Code}
 use Rattle.lrc_code.specs.declared.codes.Code.TheVariants.{Wide, Narrow}
 use Rattle.lrc_code.specs.declared.codes.Class.TheVariants.{A, B, G}
-use Rattle.lrc_code.specs.Codes.{members}
+use Rattle.lrc_code.specs.Codes.{members, data_count}
 use Rattle.lrc_field.specs.Field.{times, times_by, times_x}
-use Rattle.lrc_field.specs.Stripes.{Bytes, data_count, data_of, numbers_of, in_parity, sum_of}
+use Rattle.lrc_field.specs.Stripes.{Bytes, data_of, numbers_of, in_parity, sum_of}
 use Rattle.lrc_field.specs.Weights.{place}
 use Rattle.lrc_field.proofs.FieldLemmas.{times_zero}
 use Rattle.lrc_field.proofs.SublistLemmas.{each, each-suc, excess_by}

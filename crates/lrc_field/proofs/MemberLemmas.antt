@@ -5,11 +5,11 @@ use Rattle.std.proofs.lemmas.Bool.{or_cases, eqb-true, agree_below, agree_below_
 use Rattle.lrc_code.specs.declared.codes.Code.{Code}
 use Rattle.lrc_code.specs.declared.codes.Code.TheVariants.{Wide, Narrow}
 use Rattle.lrc_code.specs.declared.codes.Class.TheVariants.{A, B, G}
-use Rattle.lrc_code.specs.Codes.{fragment_count, members}
+use Rattle.lrc_code.specs.Codes.{group_size, data_count, fragment_count, members}
 use Rattle.lrc_code.specs.Losses.{FragmentSet, losses_in, size_of}
 use Rattle.lrc_code.proofs.LossesLemmas.{size_of-classes}
 use Rattle.lrc_code.proofs.SubsetsLemmas.{count_by-not}
-use Rattle.lrc_field.specs.Stripes.{numbers_of, data_count, outside}
+use Rattle.lrc_field.specs.Stripes.{numbers_of, outside}
 use Rattle.lrc_field.specs.Weights.{lost_in}
 use Rattle.lrc_field.proofs.SublistLemmas.{at_filter}
 
@@ -53,17 +53,16 @@ pub only_one : (code : Code) (f : ℕ) → f < fragment_count code → losses_in
 only_one code f within = eqb-true _ _ (agree_below_at (λ f. eqb (losses_in code A (only f) + losses_in code B (only f) + losses_in code G (only f)) 1) (λ _. true) (fragment_count code) f (one_class code) within)
 
 -- the number of members of a local group
-group_size : Code → ℕ
-group_size Wide = 7
-group_size Narrow = 4
+local_size : Code → ℕ
+local_size code = group_size code + 1
 
-lengths : (code : Code) → (length (members code A) ≡ group_size code) × (length (members code B) ≡ group_size code) × (length (members code G) ≡ 2)
-unfolding group_size
+lengths : (code : Code) → (length (members code A) ≡ local_size code) × (length (members code B) ≡ local_size code) × (length (members code G) ≡ 2)
+unfolding local_size
 lengths Wide = (refl, refl, refl)
 lengths Narrow = (refl, refl, refl)
 
-all_lengths : (code : Code) → (fragment_count code ≡ group_size code + group_size code + 2) × (fragment_count code ≡ data_count code + 4)
-unfolding group_size
+all_lengths : (code : Code) → (fragment_count code ≡ local_size code + local_size code + 2) × (fragment_count code ≡ data_count code + 4)
+unfolding local_size
 all_lengths Wide = (refl, refl)
 all_lengths Narrow = (refl, refl)
 
@@ -74,7 +73,7 @@ total a b g x y z n s t all ea eb eg es et e = omega (arith, ea, eb, eg, es, et,
 pub size_of-outside : (code : Code) (m : FragmentSet) → size_of code (outside m) + size_of code m ≡ fragment_count code
 size_of-outside code m =
     let long = lengths code in
-    total (losses_in code A m) (losses_in code B m) (losses_in code G m) (losses_in code A (outside m)) (losses_in code B (outside m)) (losses_in code G (outside m)) (group_size code) (size_of code (outside m)) (size_of code m) (fragment_count code)
+    total (losses_in code A m) (losses_in code B m) (losses_in code G m) (losses_in code A (outside m)) (losses_in code B (outside m)) (losses_in code G (outside m)) (local_size code) (size_of code (outside m)) (size_of code m) (fragment_count code)
     (count_by-not m (members code A) ∙ long.0) (count_by-not m (members code B) ∙ long.1) (count_by-not m (members code G) ∙ long.2)
     (size_of-classes code (outside m)) (size_of-classes code m) (all_lengths code).0
 

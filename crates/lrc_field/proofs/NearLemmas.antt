@@ -41,9 +41,9 @@ none_kept t m (x ∷ xs) none g has hit = elim (or_cases (eqb g x.value) (list_a
   ]
 ]
 
-all_fragments : (code : Code) → agree_below (λ g. list_any (λ (h : Fragment). eqb g h.value) (fragments code)) (λ _. true) (fragment_count code) ≡ true
-all_fragments Wide = refl
-all_fragments Narrow = refl
+all_listed : (code : Code) → agree_below (λ g. list_any (λ (h : Fragment). eqb g h.value) (fragments code)) (λ _. true) (fragment_count code) ≡ true
+all_listed Wide = refl
+all_listed Narrow = refl
 
 -- a fragment of the list that passes both tests
 record Kept (t m : ℕ → Bool) (n : ℕ) : Type 0 where
@@ -131,7 +131,7 @@ alone_from code m f local =
     record {
       grouped = parts.0;
       none = λ g low beside. none_kept (is_beside code f.value) m (fragments code) (not-true (list_any (λ g. m g.value) (others code f)) parts.1) g
-          (agree_below_at (λ g. list_any (λ (h : Fragment). eqb g h.value) (fragments code)) (λ _. true) (fragment_count code) g (all_fragments code) low) beside;
+          (agree_below_at (λ g. list_any (λ (h : Fragment). eqb g h.value) (fragments code)) (λ _. true) (fragment_count code) g (all_listed code) low) beside;
     }
 
 second : (a b : Bool) → a ≡ true → (a && b) ≡ false → b ≡ false

@@ -2,9 +2,9 @@
 use Rattle.std.proofs.Common.{◌≡◌, ◌≢◌, ℕ, ◌+◌, ◌<◌, ◌≤◌, Bool, true, false, not, ◌&&◌, eqb, lit<, refl, sym, ap, subst, ◌∙◌, inl, inr, arith}
 use Rattle.std.proofs.lemmas.Bool.{cases_Bool, cases_lt, eqb-true, eq-eqb, ne_eqb, le-ltb, and_parts, and_from, not-true, not-false}
 use Rattle.lrc_code.specs.declared.codes.Code.{Code}
-use Rattle.lrc_code.specs.Codes.{fragment_count}
+use Rattle.lrc_code.specs.Codes.{fragment_count, data_count}
 use Rattle.lrc_code.specs.Losses.{FragmentSet}
-use Rattle.lrc_field.specs.Stripes.{Bytes, IsStripe, data_count, numbers_of, sum_of, outside, Determines}
+use Rattle.lrc_field.specs.Stripes.{Bytes, IsStripe, numbers_of, sum_of, outside, Determines}
 use Rattle.lrc_field.specs.Recipes.{read_by, readable}
 use Rattle.lrc_field.specs.Weights.{Weights, value_at, in_equation, coefficient_by}
 use Rattle.lrc_field.proofs.FieldLemmas.{times_zero}

@@ -11,11 +11,11 @@ use Rattle.lrc_code.specs.declared.codes.Class.{Class}
 use Rattle.lrc_code.specs.declared.codes.Class.TheVariants.{A, B}
 use Rattle.lrc_code.specs.declared.numbers.Fragment.{Fragment}
 use Rattle.lrc_code.specs.Numbers.{same_fragment}
-use Rattle.lrc_code.specs.Codes.{fragment_count, members, class_of, are_one_class, share_class, is_local_class, other_count}
+use Rattle.lrc_code.specs.Codes.{fragment_count, members, class_of, are_one_class, share_class, is_local_class, data_count, group_size}
 use Rattle.lrc_code.specs.Losses.{FragmentSet, IsRecoverable, losses_in, size_of, joined, is_local}
 use Rattle.lrc_code.proofs.LossesLemmas.{members-below}
 use Rattle.lrc_code.proofs.SizeLemmas.{recoverable_part, which_four}
-use Rattle.lrc_field.specs.Stripes.{data_count, numbers_of, outside, Determines}
+use Rattle.lrc_field.specs.Stripes.{numbers_of, outside, Determines}
 use Rattle.lrc_field.specs.Recipes.{read_by, readable, IsRecipe, ComesFirst, IsFirstRecipe}
 use Rattle.lrc_field.specs.Weights.{Weights, coefficient_by, weights_for, local_weights}
 use Rattle.lrc_field.proofs.MemberLemmas.{only, fragments_below, fragments_listed, at_most_sixteen, size_of-outside, four_parities}
@@ -34,7 +34,7 @@ use Rattle.lrc_field.proofs.ReadLemmas.{AreOf, below, exact, read_determines, re
 pub record Made (code : Code) (m : FragmentSet) (f : Fragment) (c : ℕ → ℕ) : Type 0 where
   pub recipe : IsFirstRecipe code m f.value c
   pub determines : Determines code (readable m f.value) f.value
-  pub reads : size_of code (read_by c) ≡ (if is_local code m f then other_count code else data_count code)
+  pub reads : size_of code (read_by c) ≡ (if is_local code m f then group_size code else data_count code)
   pub local : is_local code m f ≡ true → (g : Fragment) → c g.value ≡ (if share_class code f g && not (same_fragment f g) then 1 else 0)
 
 -- the others of a set, as the program has them
@@ -59,21 +59,21 @@ unknown_missing code m known f inside g few missing apart = and_from (outside kn
 -- ---- the recipe of a fragment that its group rebuilds
 
 own_size : Code → ℕ → Bool
-own_size code f = not (option_map_or is_local_class (class_of code f) false) || eqb (size_of code (is_beside code f)) (other_count code)
+own_size code f = not (option_map_or is_local_class (class_of code f) false) || eqb (size_of code (is_beside code f)) (group_size code)
 
 all_sizes : (code : Code) → agree_below (own_size code) (λ _. true) (fragment_count code) ≡ true
 unfolding own_size
 all_sizes Wide = refl
 all_sizes Narrow = refl
 
-group_count : (code : Code) (f : ℕ) → f < fragment_count code → option_map_or is_local_class (class_of code f) false ≡ true → size_of code (is_beside code f) ≡ other_count code
+group_count : (code : Code) (f : ℕ) → f < fragment_count code → option_map_or is_local_class (class_of code f) false ≡ true → size_of code (is_beside code f) ≡ group_size code
 unfolding own_size
-group_count code f within grouped = elim (or_cases (not (option_map_or is_local_class (class_of code f) false)) (eqb (size_of code (is_beside code f)) (other_count code)) (agree_below_at (own_size code) (λ _. true) (fragment_count code) f (all_sizes code) within)) [
+group_count code f within grouped = elim (or_cases (not (option_map_or is_local_class (class_of code f) false)) (eqb (size_of code (is_beside code f)) (group_size code)) (agree_below_at (own_size code) (λ _. true) (fragment_count code) f (all_sizes code) within)) [
   | inl outside_of ↦ absurd (let e : not true ≡ true = rw grouped at outside_of in cc)
   | inr is ↦ eqb-true _ _ is
 ]
 
-fewer_others : (code : Code) → other_count code < data_count code
+fewer_others : (code : Code) → group_size code < data_count code
 fewer_others Wide = omega arith
 fewer_others Narrow = omega arith
 
@@ -114,7 +114,7 @@ module _ (code : Code) (m : FragmentSet) (f : Fragment) (c : ℕ → ℕ) (withi
   read_group : (g : ℕ) → g < fragment_count code → read_by c g ≡ is_beside code f.value g
   read_group g few = one_if (is_beside code f.value g) (c g) (ones g (let sixteen = at_most_sixteen code in omega (arith, few, sixteen)))
 
-  count : size_of code (read_by c) ≡ other_count code
+  count : size_of code (read_by c) ≡ group_size code
   count = equal_both (size_of code (read_by c)) (size_of code (is_beside code f.value)) (size_of-within code (is_beside code f.value) (read_by c) (λ g few h. sym (read_group g few) ∙ h)) (size_of-within code (read_by c) (is_beside code f.value) (λ g few h. read_group g few ∙ h)) ∙ group_count code f.value within alone.grouped
 
   fewest : (known : FragmentSet) → ((g : ℕ) → g < fragment_count code → known g ≡ true → readable m f.value g ≡ true) → Determines code known f.value → size_of code (read_by c) ≤ size_of code known
@@ -360,7 +360,7 @@ module _ (code : Code) (m o : FragmentSet) (f : Fragment) (c : ℕ → ℕ) (wit
 pub record Listed (code : Code) (m : FragmentSet) (f : Fragment) (xs : List ℕ) : Type 0 where
   pub recipe : IsFirstRecipe code m f.value (λ g. get_or xs g 0)
   pub determines : Determines code (readable m f.value) f.value
-  pub reads : count_by (λ c. not (eqb c 0)) xs ≡ (if is_local code m f then other_count code else data_count code)
+  pub reads : count_by (λ c. not (eqb c 0)) xs ≡ (if is_local code m f then group_size code else data_count code)
   pub local : is_local code m f ≡ true → (g : Fragment) → get_or xs g.value 0 ≡ (if share_class code f g && not (same_fragment f g) then 1 else 0)
 
 none_past : (code : Code) (m : FragmentSet) (f : ℕ) (c : ℕ → ℕ) → IsRecipe code m f c → (g : ℕ) → fragment_count code ≤ g → c g ≡ 0

@@ -3,10 +3,11 @@ use Rattle.std.proofs.Common.{◌≡◌, ℕ, zero, suc, ◌+◌, ◌<◌, true,
 use Rattle.std.specs.List.{list_all}
 use Rattle.std.proofs.lemmas.Bool.{eqb-true, ltb-true, and_parts}
 use lib.Bits.{xor_assoc, xor_self, xor_zero_r}
+use Rattle.lrc_code.specs.Codes.{data_count}
 use Rattle.lrc_code.specs.declared.codes.Code.{Code}
 use Rattle.lrc_code.specs.declared.codes.Code.TheVariants.{Wide, Narrow}
 use Rattle.lrc_field.specs.Field.{times, times_by, times_x}
-use Rattle.lrc_field.specs.Stripes.{Bytes, data_count, data_of, parities, numbers_of, in_parity, sum_of, IsStripe}
+use Rattle.lrc_field.specs.Stripes.{Bytes, data_of, parities, numbers_of, in_parity, sum_of, IsStripe}
 use Rattle.lrc_field.specs.Weights.{in_equation}
 use Rattle.lrc_field.proofs.FieldLemmas.{xor_swap, times_assoc, xor-times, times-xor, times_zero, one_times, zero_times}
 

@@ -6,11 +6,11 @@ use Rattle.std.proofs.Math.ListN.{length-take}
 use Rattle.std.proofs.lemmas.Bool.{cases_lt, eqb-true, eqb-false, eq-eqb, ltb-true, and_parts, or_cases, not-true}
 use Rattle.lrc_code.specs.declared.codes.Code.{Code}
 use Rattle.lrc_code.specs.declared.codes.Class.TheVariants.{A, B, G}
-use Rattle.lrc_code.specs.Codes.{fragment_count, members}
+use Rattle.lrc_code.specs.Codes.{fragment_count, members, data_count}
 use Rattle.lrc_code.specs.Losses.{FragmentSet, IsRecoverable, excess, losses_in}
 use Rattle.lrc_code.proofs.LossesLemmas.{by_counts}
 use Rattle.lrc_code.proofs.MarginLemmas.{losses-most}
-use Rattle.lrc_field.specs.Stripes.{Bytes, data_count, data_of, numbers_of, in_parity, sum_of, IsStripe, IsDecodable, AreAlikeOutside}
+use Rattle.lrc_field.specs.Stripes.{Bytes, data_of, numbers_of, in_parity, sum_of, IsStripe, IsDecodable, AreAlikeOutside}
 use Rattle.lrc_field.specs.Weights.{lost_in}
 use Rattle.lrc_field.proofs.FieldLemmas.{times_zero}
 use Rattle.lrc_field.proofs.DecodableLemmas.{decodable}

@@ -5,9 +5,9 @@ use Rattle.std.proofs.lemmas.Bool.{cases_Bool, eqb-true, ltb-true, and_parts, ag
 use lib.Bits.{xor_assoc, xor_comm, xor_zero_r, xor_lt}
 use Rattle.lrc_code.specs.declared.codes.Code.{Code}
 use Rattle.lrc_code.specs.declared.codes.Code.TheVariants.{Wide, Narrow}
-use Rattle.lrc_code.specs.Codes.{fragment_count}
+use Rattle.lrc_code.specs.Codes.{fragment_count, data_count}
 use Rattle.lrc_field.specs.Field.{times, times_by, times_x}
-use Rattle.lrc_field.specs.Stripes.{Bytes, data_count, numbers_of, in_parity, sum_of, IsStripe}
+use Rattle.lrc_field.specs.Stripes.{Bytes, numbers_of, in_parity, sum_of, IsStripe}
 use Rattle.lrc_field.specs.Weights.{Weights, in_equation, value_at, scaled}
 use Rattle.lrc_field.proofs.FieldLemmas.{xor_twice, times_assoc, times-xor, times_zero, one_times, zero_times, times_below}
 use Rattle.lrc_field.proofs.SumLemmas.{sum_of-times, sum_of-xor, checked}

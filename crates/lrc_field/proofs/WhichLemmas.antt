@@ -4,10 +4,10 @@ use Rattle.std.specs.Bool.{IsFalse}
 use Rattle.std.proofs.lemmas.Bool.{cases_Bool, and_parts, and_from, or_left, or_right, not-false}
 use Rattle.lrc_code.specs.declared.codes.Code.{Code}
 use Rattle.lrc_code.specs.declared.numbers.Fragment.{Fragment}
-use Rattle.lrc_code.specs.Codes.{fragment_count}
+use Rattle.lrc_code.specs.Codes.{fragment_count, data_count}
 use Rattle.lrc_code.specs.Losses.{FragmentSet, IsRecoverable, size_of, joined, is_local}
 use Rattle.lrc_code.proofs.SizeLemmas.{recoverable_part}
-use Rattle.lrc_field.specs.Stripes.{outside, Determines, data_count}
+use Rattle.lrc_field.specs.Stripes.{outside, Determines}
 use Rattle.lrc_field.specs.Weights.{local_weights}
 use Rattle.lrc_field.proofs.MemberLemmas.{only}
 use Rattle.lrc_field.proofs.NearLemmas.{alone_from, near_from}

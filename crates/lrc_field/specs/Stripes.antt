@@ -2,18 +2,13 @@
 use Rattle.std.specs.Prelude.{◌≡◌, ◌≢◌, ℕ, zero, suc, ◌+◌, ◌-◌, ◌*◌, ◌<◌, ◌≤◌, if◌then◌else◌, nat_lt, nat_eq, not, IsTrue, IsFalse, List, [], ◌∷◌, ◌++◌, length, get_or}
 use Rattle.lrc_code.specs.declared.codes.Code.{Code}
 use Rattle.lrc_code.specs.declared.codes.Code.TheVariants.{Wide, Narrow}
-use Rattle.lrc_code.specs.Codes.{fragment_count}
+use Rattle.lrc_code.specs.Codes.{group_size, data_count, fragment_count}
 use Rattle.lrc_code.specs.Losses.{FragmentSet, size_of, joined}
 use Rattle.lrc_field.specs.Field.{plus, times}
 
 -- a byte of each fragment, by fragment number
 abbrev pub Bytes : Type 0
 Bytes = ℕ → ℕ
-
--- the number of data fragments; the parities are numbered from here, the two local ones before the two global ones
-abbrev pub data_count : Code → ℕ
-data_count Wide = 12
-data_count Narrow = 6
 
 -- the data fragments, in ascending order
 abbrev pub data_of : Code → List ℕ
@@ -29,21 +24,16 @@ parities Narrow = 6 ∷ 7 ∷ 8 ∷ 9 ∷ []
 abbrev pub numbers_of : Code → List ℕ
 numbers_of code = data_of code ++ parities code
 
--- the number of data fragments in a local group; those of group A come first
-abbrev pub group_data_count : Code → ℕ
-group_data_count Wide = 6
-group_data_count Narrow = 3
-
 -- the factor of a data fragment in the first global parity: 1, 2, 3 and so on in group A; 16, 32, 48 and so on in
 -- group B
 abbrev pub factor : Code → ℕ → ℕ
-factor code d = if nat_lt d (group_data_count code) then d + 1 else 16 * ((d + 1) - group_data_count code)
+factor code d = if nat_lt d (group_size code) then d + 1 else 16 * ((d + 1) - group_size code)
 
 -- the coefficient of a data fragment in each of the four parities: 1 in the local parity of its group and 0 in the
 -- other, its factor, and the square of its factor
 abbrev pub in_parity : Code → ℕ → ℕ → ℕ
-in_parity code zero d = if nat_lt d (group_data_count code) then 1 else 0
-in_parity code (suc zero) d = if nat_lt d (group_data_count code) then 0 else 1
+in_parity code zero d = if nat_lt d (group_size code) then 1 else 0
+in_parity code (suc zero) d = if nat_lt d (group_size code) then 0 else 1
 in_parity code (suc (suc zero)) d = factor code d
 in_parity code (suc (suc (suc j))) d = times (factor code d) (factor code d)
 

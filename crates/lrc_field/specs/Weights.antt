@@ -4,10 +4,10 @@ use Rattle.std.specs.Prelude.{ℕ, ◌+◌, if◌then◌else◌, nat_lt, nat_eq,
 use Rattle.lrc_code.specs.declared.codes.Code.{Code}
 use Rattle.lrc_code.specs.declared.codes.Class.{Class}
 use Rattle.lrc_code.specs.declared.codes.Class.TheVariants.{A, B, G}
-use Rattle.lrc_code.specs.Codes.{class_of, are_one_class, members}
+use Rattle.lrc_code.specs.Codes.{class_of, are_one_class, members, data_count}
 use Rattle.lrc_code.specs.Losses.{FragmentSet}
 use Rattle.lrc_field.specs.Field.{plus, times, inverse}
-use Rattle.lrc_field.specs.Stripes.{data_count, factor, in_parity}
+use Rattle.lrc_field.specs.Stripes.{factor, in_parity}
 use Rattle.lrc_field.specs.declared.equations.Parity.{Parity}
 use Rattle.lrc_field.specs.declared.equations.Parity.TheVariants.{LocalA, LocalB, Global, Square}
 pub use Rattle.lrc_field.specs.declared.equations.Weights.{Weights}

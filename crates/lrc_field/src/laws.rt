@@ -3,12 +3,12 @@
 ghost use Rattle.std.specs.Prelude.{◌≡◌, ◌≢◌, ◌↔◌, ◌⊎◌, ◌<◌, ◌≤◌, ◌+◌, if◌then◌else◌, ℕ, IsTrue, IsFalse};
 ghost use Rattle.lrc_code.specs.declared.codes.Code.{Code};
 ghost use Rattle.lrc_code.specs.declared.numbers.Fragment.{Fragment};
-ghost use Rattle.lrc_code.specs.Codes.{fragment_count, other_count};
+ghost use Rattle.lrc_code.specs.Codes.{fragment_count, data_count, group_size};
 ghost use Rattle.lrc_code.specs.Losses.{FragmentSet, IsRecoverable, IsMargin, size_of, is_local};
 ghost use Rattle.lrc_field.specs.Field.{plus, times, inverse};
 ghost use Rattle.lrc_field.specs.Polynomials.{product, remainder};
 ghost use Rattle.lrc_field.specs.Recipes.{IsRecipe, IsFirstRecipe, ComesFirst, readable, read_by};
-ghost use Rattle.lrc_field.specs.Stripes.{Bytes, IsStripe, IsOfRows, outside, data_count};
+ghost use Rattle.lrc_field.specs.Stripes.{Bytes, IsStripe, IsOfRows, outside};
 ghost use Rattle.lrc_field.specs.Stripes.{Determines, IsDecodable, AreAlikeOutside, StaysDecodable, AreTooMany, IsDecodableMargin};
 
 /// A product of two bytes is the product of their polynomials modulo x^8 + x^4 + x^3 + x^2 + 1.
@@ -90,7 +90,7 @@ pub fn first_recipes()
 /// as many as there are data fragments. Two that read the same fragments have the same coefficients.
 pub fn recipes_by_what_they_read()
     ensures count { (code : Code) (missing : FragmentSet) (f : Fragment) (c : ℕ → ℕ) → f.value < fragment_count code → IsRecipe code missing f.value c →
-        size_of code (read_by c) ≡ (if is_local code missing f then other_count code else data_count code) }
+        size_of code (read_by c) ≡ (if is_local code missing f then group_size code else data_count code) }
     ensures coefficients { (code : Code) (missing : FragmentSet) (f : ℕ) (c d : ℕ → ℕ) → ((g : ℕ) → c g < 256) → ((g : ℕ) → d g < 256) →
         IsRecipe code missing f c → IsRecipe code missing f d → ((g : ℕ) → read_by c g ≡ read_by d g) → (g : ℕ) → c g ≡ d g }
 {}

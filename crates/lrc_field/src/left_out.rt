@@ -1,9 +1,7 @@
 ghost use Rattle.std.specs.Prelude.{◌≡◌, ◌+◌, ◌<◌, ◌&&◌, find, unwrap_or, Some};
-ghost use Rattle.lrc_code.specs.declared.codes.Code.TheVariants.{Wide};
 ghost use Rattle.lrc_code.specs.declared.codes.Class.TheVariants.{A, B, G};
-ghost use Rattle.lrc_code.specs.Codes.{fragments, class_of, are_one_class};
+ghost use Rattle.lrc_code.specs.Codes.{fragments, class_of, are_one_class, all_fragments, data_count as data_count_of};
 ghost use Rattle.lrc_code.specs.Losses.{bits_set};
-ghost use Rattle.lrc_field.specs.Stripes.{data_count as data_count_of};
 ghost use Rattle.lrc_field.specs.Weights.{place as place_of, lost_in, first_or, out_of_a, out_of_b, spare as spare_of, third_out, weights_without, by_third, with_locals, line as line_at};
 
 use crate::equations::{Parity, Weights};
@@ -123,7 +121,7 @@ fn first_of(code: Code, class: Class, lost: LossMask, other: Fragment) -> Fragme
 
 /// Returns the first fragment that is in both sets.
 fn first_common(first: LossMask, second: LossMask) -> Option<Fragment>
-    ensures { result ≡ find (λ f. bits_set first.bits f.value && bits_set second.bits f.value) (fragments Wide) }
+    ensures { result ≡ find (λ f. bits_set first.bits f.value && bits_set second.bits f.value) all_fragments }
 {
     Fragment::all().iter().copied().find(|fragment| first.contains(*fragment)
         && second.contains(*fragment))

@@ -1,6 +1,6 @@
 ghost use Rattle.std.specs.Prelude.{◌≡◌, ◌<◌, ◌≤◌, ◌↔◌, IsSome, IfSome};
-ghost use Rattle.lrc_code.specs.Codes.{fragment_count};
-ghost use Rattle.lrc_field.specs.Stripes.{data_count as data_count_of, generator, IsRow};
+ghost use Rattle.lrc_code.specs.Codes.{fragment_count, data_count as data_count_of};
+ghost use Rattle.lrc_field.specs.Stripes.{generator, IsRow};
 
 use crate::equations::Parity;
 use lrc_code::{Code, Fragment};

@@ -1,9 +1,9 @@
 ghost use Rattle.std.specs.Prelude.{◌≡◌, ℕ, ◌<◌, ◌↔◌, ◌&&◌, if◌then◌else◌, not, nat_eq, count_by, IsTrue, IsSome, IfSome, get_or, length};
 ghost use Rattle.lrc_code.specs.declared.numbers.Fragment.{Fragment as AnyFragment};
 ghost use Rattle.lrc_code.specs.Numbers.{same_fragment};
-ghost use Rattle.lrc_code.specs.Codes.{fragment_count, share_class, other_count};
+ghost use Rattle.lrc_code.specs.Codes.{fragment_count, share_class, data_count, group_size};
 ghost use Rattle.lrc_code.specs.Losses.{bits_set, is_local as is_local_in};
-ghost use Rattle.lrc_field.specs.Stripes.{data_count, Determines};
+ghost use Rattle.lrc_field.specs.Stripes.{Determines};
 ghost use Rattle.lrc_field.specs.Recipes.{IsFirstRecipe, readable};
 ghost use Rattle.lrc_field.specs.Weights.{coefficient_by, weights_for, local_weights as local_weights_of};
 
@@ -30,7 +30,7 @@ impl Recipe {
     pub fn of(code: Code, missing: LossMask, fragment: Fragment) -> Option<Recipe>
         ensures recipe { IfSome result (λ r. IsFirstRecipe code (bits_set missing.bits) fragment.value (λ g. get_or r.coefficients g 0)) }
         ensures some { IsSome result ↔ ((fragment.value < fragment_count code) × Determines code (readable (bits_set missing.bits) fragment.value) fragment.value) }
-        ensures reads { IfSome result (λ r. count_by (λ c. not (nat_eq c 0)) r.coefficients ≡ (if is_local_in code (bits_set missing.bits) fragment then other_count code else data_count code)) }
+        ensures reads { IfSome result (λ r. count_by (λ c. not (nat_eq c 0)) r.coefficients ≡ (if is_local_in code (bits_set missing.bits) fragment then group_size code else data_count code)) }
         ensures local { IfSome result (λ r. IsTrue (is_local_in code (bits_set missing.bits) fragment) → (g : AnyFragment) →
             get_or r.coefficients g.value 0 ≡ (if share_class code fragment g && not (same_fragment fragment g) then 1 else 0)) }
     {

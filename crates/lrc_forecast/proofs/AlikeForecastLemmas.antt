@@ -5,10 +5,9 @@ use Rattle.std.specs.List.{list_any}
 use Rattle.std.specs.Option.{option_map_or}
 use Rattle.std.proofs.lemmas.Map.Entries.{option_filter}
 use Rattle.std.proofs.Math.Path.{fun_ext}
-use Rattle.lrc_code.specs.declared.codes.Code.TheVariants.{Wide}
 use Rattle.lrc_code.specs.declared.numbers.NodeNo.{NodeNo}
 use Rattle.lrc_code.specs.declared.numbers.Fragment.{Fragment}
-use Rattle.lrc_code.specs.Codes.{fragments, has_fragment}
+use Rattle.lrc_code.specs.Codes.{all_fragments, has_fragment}
 use Rattle.lrc_code.specs.Losses.{bits_of}
 use Rattle.lrc_topology.specs.declared.NodeInfo.{NodeInfo}
 use Rattle.lrc_terms.specs.declared.lease.Lease.{Lease}
@@ -117,8 +116,8 @@ module _ (nodes : List NodeInfo) (w v : State) (alike : AreAlike w v) (seated : 
           after = after i s;
           missing = record { bits = bits_of (code i s) (missing i s) };
           newly_missing = record { bits = bits_of (code i s) (λ f. missing i s f && not (now i s f)) };
-          leases_ended = length (filter (λ (l : Lease). is_none (later i l.stripe l.fragment)) (flat_map (λ (f : Fragment). option_to_list (lease i s f.value)) (fragments Wide)));
-          loses_seat = list_any (λ (f : Fragment). option_map_or (λ seat. goes i seat.node) (homes i s f.value) false || option_map_or (λ seat. goes i seat.node) (option_map (λ (l : Lease). l.target) (lease i s f.value)) false) (fragments Wide);
+          leases_ended = length (filter (λ (l : Lease). is_none (later i l.stripe l.fragment)) (flat_map (λ (f : Fragment). option_to_list (lease i s f.value)) all_fragments));
+          loses_seat = list_any (λ (f : Fragment). option_map_or (λ seat. goes i seat.node) (homes i s f.value) false || option_map_or (λ seat. goes i seat.node) (option_map (λ (l : Lease). l.target) (lease i s f.value)) false) all_fragments;
         }
 
     pub alike-forecast : forecast nodes w outage ns ≡ forecast nodes v outage ns

@@ -10,7 +10,7 @@ use Rattle.lrc_code.specs.declared.numbers.StripeNo.{StripeNo}
 use Rattle.lrc_code.specs.declared.numbers.NodeNo.{NodeNo}
 use Rattle.lrc_code.specs.declared.numbers.Fragment.{Fragment}
 use Rattle.lrc_code.specs.Numbers.{same_node}
-use Rattle.lrc_code.specs.Codes.{fragments}
+use Rattle.lrc_code.specs.Codes.{fragments, all_fragments}
 use Rattle.lrc_topology.specs.declared.NodeInfo.{NodeInfo}
 use Rattle.lrc_topology.specs.declared.seat.Seat.{Seat}
 use Rattle.lrc_topology.specs.declared.seat.Held.{Held}
@@ -147,7 +147,7 @@ module _ (nodes : List NodeInfo) (st : State) (seated : AreSeated nodes st) wher
     abbrev test : Fragment → Bool
     test f = is_taken_away st after (homes_of st.homes s f.value) || is_taken_away st after (lease_target st s f)
 
-    fragment-listed : (f : Fragment) → Contains (fragments Wide) f
+    fragment-listed : (f : Fragment) → Contains all_fragments f
     fragment-listed f = code-fragments Wide f (lt-ltb f.value 16 f.in_range)
 
     either-on : (a b : Bool) → (a || b) ≡ false → (a ≡ false) × (b ≡ false)
@@ -157,7 +157,7 @@ module _ (nodes : List NodeInfo) (st : State) (seated : AreSeated nodes st) wher
     none-of : loses_seat st after s ≡ false → (f : Fragment) → test f ≡ false
     unfolding loses_seat
     none-of none f = false_from_ne_true (test f) (λ hit.
-        let both : true ≡ false = sym (list_any-member test (fragments Wide) f (fragment-listed f) hit) ∙ none in cc)
+        let both : true ≡ false = sym (list_any-member test all_fragments f (fragment-listed f) hit) ∙ none in cc)
 
     keeps : loses_seat st after s ≡ false → KeepsSeats st after s
     keeps none h here own = elim (Contains-append_cases st.homes (map held_by st.leases) h here) [
@@ -177,8 +177,8 @@ module _ (nodes : List NodeInfo) (st : State) (seated : AreSeated nodes st) wher
 
     kept-none : KeepsSeats st after s → loses_seat st after s ≡ false
     unfolding loses_seat
-    kept-none all = false_from_ne_true (list_any test (fragments Wide)) (λ hit.
-        let (f, among, on) = member-list_any test (fragments Wide) hit in
+    kept-none all = false_from_ne_true (list_any test all_fragments) (λ hit.
+        let (f, among, on) = member-list_any test all_fragments hit in
         let both : true ≡ false = sym on ∙ each f in cc)
       where
         home-kept : (f : Fragment) (o : Option Seat) → homes_of st.homes s f.value ≡ o → is_taken_away st after o ≡ false
@@ -218,9 +218,9 @@ module _ (nodes : List NodeInfo) (st : State) (seated : AreSeated nodes st) wher
     going-as outage None at = refl
     going-as outage (Some seat) at = goes-as outage seat (at seat refl)
 
-    pub loses-as : (outage : Outage) (s : StripeNo) → list_any (has_going_seat set outage nodes st s (homes_of st.homes s)) (fragments Wide) ≡ loses_seat st (state_with outage st ns) s
+    pub loses-as : (outage : Outage) (s : StripeNo) → list_any (has_going_seat set outage nodes st s (homes_of st.homes s)) all_fragments ≡ loses_seat st (state_with outage st ns) s
     unfolding loses_seat
-    loses-as outage s = λ i. list_any (λ (f : Fragment). home f i || target f i) (fragments Wide) where
+    loses-as outage s = λ i. list_any (λ (f : Fragment). home f i || target f i) all_fragments where
       home : (f : Fragment) → is_on_going set outage nodes st (homes_of st.homes s f.value) ≡ is_taken_away st (state_with outage st ns) (homes_of st.homes s f.value)
       home f = going-as outage (homes_of st.homes s f.value) (λ seat is. stands (held_on s f seat) (home-held s f seat is))
 

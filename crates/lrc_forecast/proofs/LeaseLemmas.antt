@@ -12,7 +12,7 @@ use Rattle.lrc_code.specs.declared.numbers.StripeNo.{StripeNo}
 use Rattle.lrc_code.specs.declared.numbers.NodeNo.{NodeNo}
 use Rattle.lrc_code.specs.declared.numbers.Fragment.{Fragment}
 use Rattle.lrc_code.specs.Numbers.{same_node}
-use Rattle.lrc_code.specs.Codes.{fragments}
+use Rattle.lrc_code.specs.Codes.{fragments, all_fragments}
 use Rattle.lrc_code.proofs.NumbersLemmas.{equal_fragments}
 use Rattle.lrc_topology.specs.declared.NodeInfo.{NodeInfo}
 use Rattle.lrc_topology.specs.declared.seat.Seat.{Seat}
@@ -181,10 +181,10 @@ module _ (st : State) (ns : List NodeNo) (single : HaveOneHome st) (one : AreOne
 
   -- as a walk over the fragments counts them
   pub ended-count : (s : StripeNo) (set : List Bool) → IsSetOf ns set
-      → count_by (has_lease_on_set set st s (homes_of st.homes s)) (fragments Wide) ≡ length (ended_leases st (state_with Lose st ns) s)
+      → count_by (has_lease_on_set set st s (homes_of st.homes s)) all_fragments ≡ length (ended_leases st (state_with Lose st ns) s)
   unfolding live_leases
   ended-count s set are =
-      (λ i. count_by (λ f. same f i) (fragments Wide)) ∙ sym (count-flat (lease_of st s) (λ l. is_none (lease_of (state_with Lose st ns) l.stripe l.fragment)) (fragments Wide))
+      (λ i. count_by (λ f. same f i) all_fragments) ∙ sym (count-flat (lease_of st s) (λ l. is_none (lease_of (state_with Lose st ns) l.stripe l.fragment)) all_fragments)
     where
       same : (f : Fragment) → has_lease_on_set set st s (homes_of st.homes s) f ≡ option_map_or (λ l. is_none (lease_of (state_with Lose st ns) l.stripe l.fragment)) (lease_of st s f) false
       same f = by (lease_of st s f) refl where
@@ -212,7 +212,7 @@ module _ (st : State) (s : StripeNo) (l : Lease) where
   stripe-lease : Contains (live_leases st s) l → (lease_of st l.stripe l.fragment ≡ Some l) × (l.stripe ≡ s)
   unfolding live_leases
   stripe-lease here =
-      let m = flat-member (λ (f : Fragment). option_to_list (lease_of st s f)) (fragments Wide) l here in
+      let m = flat-member (λ (f : Fragment). option_to_list (lease_of st s f)) all_fragments l here in
       let is : lease_of st s m.0 ≡ Some l = listed (lease_of st s m.0) l m.2 in
       let own = own-lease st s m.0 l is in
       (subst (λ (r : StripeNo). lease_of st r l.fragment ≡ Some l) (sym own.0) (subst (λ (g : Fragment). lease_of st s g ≡ Some l) (sym own.1) is), own.0)
@@ -220,7 +220,7 @@ module _ (st : State) (s : StripeNo) (l : Lease) where
   lease-stripe : lease_of st s l.fragment ≡ Some l → Contains (live_leases st s) l
   unfolding live_leases
   lease-stripe is =
-      member-flat (λ (f : Fragment). option_to_list (lease_of st s f)) (fragments Wide) l.fragment l (code-fragments Wide l.fragment (lt-ltb l.fragment.value 16 l.fragment.in_range))
+      member-flat (λ (f : Fragment). option_to_list (lease_of st s f)) all_fragments l.fragment l (code-fragments Wide l.fragment (lt-ltb l.fragment.value 16 l.fragment.in_range))
       (subst (λ (o : Option Lease). Contains (option_to_list o) l) (sym is) (Contains-here l []))
 
 none-of : {X : Type 0} (o : Option X) (x : X) → o ≡ Some x → is_none o ≡ true → ⊥

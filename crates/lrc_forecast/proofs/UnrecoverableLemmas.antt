@@ -6,7 +6,7 @@ use Rattle.lrc_code.specs.declared.codes.Class.TheVariants.{A, B, G}
 use Rattle.lrc_code.specs.declared.codes.Code.{Code}
 use Rattle.lrc_code.specs.declared.numbers.StripeNo.{StripeNo}
 use Rattle.lrc_code.specs.declared.codes.Code.TheVariants.{Wide, Narrow}
-use Rattle.lrc_code.specs.Codes.{fragment_count}
+use Rattle.lrc_code.specs.Codes.{fragment_count, all_fragments}
 use Rattle.lrc_code.specs.Losses.{FragmentSet, losses_in, is_recoverable}
 use Rattle.lrc_code.proofs.LossesLemmas.{losses_in-within}
 use Rattle.lrc_topology.specs.declared.NodeInfo.{NodeInfo}

@@ -2,12 +2,11 @@
 use Rattle.std.specs.Prelude.{◌≡◌, ◌⊎◌, ℕ, IsTrue, IsFalse, Bool, true, false, not, ◌&&◌, ◌||◌, List, [], ◌∷◌, length, map, filter, flat_map, All, Contains, Option, option_map, option_to_list, is_none}
 use Rattle.std.specs.List.{list_any}
 use Rattle.std.specs.Option.{option_map_or}
-use Rattle.lrc_code.specs.declared.codes.Code.TheVariants.{Wide}
 use Rattle.lrc_code.specs.declared.numbers.StripeNo.{StripeNo}
 use Rattle.lrc_code.specs.declared.numbers.NodeNo.{NodeNo}
 use Rattle.lrc_code.specs.declared.numbers.Fragment.{Fragment}
 use Rattle.lrc_code.specs.declared.numbers.SessionNo.{SessionNo}
-use Rattle.lrc_code.specs.Codes.{has_fragment, fragments}
+use Rattle.lrc_code.specs.Codes.{has_fragment, fragments, all_fragments}
 use Rattle.lrc_code.specs.Losses.{FragmentSet, bits_of}
 use Rattle.lrc_topology.specs.declared.NodeInfo.{NodeInfo}
 use Rattle.lrc_topology.specs.declared.seat.Seat.{Seat}
@@ -62,7 +61,7 @@ newly_missing nodes st after s f = missing nodes after s f && not (missing nodes
 
 -- the live leases of a stripe, in rising order of fragment
 unfoldable pub live_leases : State → StripeNo → List Lease
-live_leases st s = flat_map (λ f. option_to_list (lease_of st s f)) (fragments Wide)
+live_leases st s = flat_map (λ f. option_to_list (lease_of st s f)) all_fragments
 
 -- those of the first state whose fragments have no live lease in the second
 abbrev pub ended_leases : State → State → StripeNo → List Lease
@@ -84,7 +83,7 @@ lease_target st s f = option_map (λ l. l.target) (lease_of st s f)
 
 -- a seat of the stripe goes away: the home of a fragment, or the target of its live lease
 unfoldable pub loses_seat : State → State → StripeNo → Bool
-loses_seat st after s = list_any (λ f. is_taken_away st after (homes_of st.homes s f.value) || is_taken_away st after (lease_target st s f)) (fragments Wide)
+loses_seat st after s = list_any (λ f. is_taken_away st after (homes_of st.homes s f.value) || is_taken_away st after (lease_target st s f)) all_fragments
 
 -- ---- forecasts
 

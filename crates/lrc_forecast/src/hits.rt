@@ -2,8 +2,7 @@
 
 ghost use Rattle.std.specs.Prelude.{◌≡◌, ℕ, false, not, ◌&&◌, ◌||◌, map, count_by, length, Some};
 ghost use Rattle.std.specs.Option.{option_map_or};
-ghost use Rattle.lrc_code.specs.declared.codes.Code.TheVariants.{Wide};
-ghost use Rattle.lrc_code.specs.Codes.{fragments, has_fragment};
+ghost use Rattle.lrc_code.specs.Codes.{fragments, has_fragment, all_fragments};
 ghost use Rattle.lrc_code.specs.Losses.{bits_set};
 ghost use Rattle.lrc_terms.specs.Levels.{Homes};
 ghost use Rattle.lrc_rules.specs.States.{lease_of};
@@ -37,7 +36,7 @@ pub(crate) fn fragments_on(
     nodes: &NodeSet,
 ) -> LossMask
     requires long { length nodes.now ≡ 65536 }
-    ensures { (of : Homes) → homes.now ≡ map (λ f. of f.value) (fragments Wide)
+    ensures { (of : Homes) → homes.now ≡ map (λ f. of f.value) all_fragments
         → (f : ℕ) → bits_set result.bits f ≡ (has_fragment code f && is_on_set nodes.now (of f)) }
 {
     let mut set = LossMask::from_bits(0);
@@ -68,8 +67,8 @@ pub(crate) fn leases_on(
     nodes: &NodeSet,
 ) -> u8
     requires long { length nodes.now ≡ 65536 }
-    ensures { (of : Homes) → homes.now ≡ map (λ f. of f.value) (fragments Wide)
-        → result ≡ count_by (has_lease_on_set nodes.now (state_of book.now) stripe of) (fragments Wide) }
+    ensures { (of : Homes) → homes.now ≡ map (λ f. of f.value) all_fragments
+        → result ≡ count_by (has_lease_on_set nodes.now (state_of book.now) stripe of) all_fragments }
 {
     let mut count = 0;
     for fragment in Fragment::all() {

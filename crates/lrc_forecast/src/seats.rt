@@ -2,8 +2,7 @@
 
 ghost use Rattle.std.specs.Prelude.{◌≡◌, length, get_or, None};
 ghost use Rattle.std.specs.List.{list_any};
-ghost use Rattle.lrc_code.specs.declared.codes.Code.TheVariants.{Wide};
-ghost use Rattle.lrc_code.specs.Codes.{fragments};
+ghost use Rattle.lrc_code.specs.Codes.{all_fragments};
 ghost use Rattle.lrc_book.specs.Books.{state_of};
 ghost use Rattle.lrc_forecast.specs.Forecasts.{lease_target};
 ghost use Rattle.lrc_forecast.specs.Hits.{would_go, is_on_going, has_going_seat};
@@ -22,7 +21,7 @@ pub(crate) fn loses_seat(
     nodes: &NodeSet,
 ) -> bool
     requires long { length nodes.now ≡ 65536 }
-    ensures { result ≡ list_any (has_going_seat nodes.now outage book.now.nodes (state_of book.now) stripe (λ f. get_or homes.now f None)) (fragments Wide) }
+    ensures { result ≡ list_any (has_going_seat nodes.now outage book.now.nodes (state_of book.now) stripe (λ f. get_or homes.now f None)) all_fragments }
 {
     Fragment::all().iter().any(|fragment| has_going_seat(
         book, outage, stripe, *fragment, homes, nodes,

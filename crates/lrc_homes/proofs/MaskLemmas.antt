@@ -7,9 +7,8 @@ use Rattle.std.proofs.lemmas.List.{get_or-map, length-map}
 use Rattle.std.proofs.lemmas.Simd.{mask_l-lt, bit_mask_l}
 use Rattle.std.specs.Simd.Lanes.{mask_l}
 use Rattle.lrc_code.specs.declared.codes.Code.{Code}
-use Rattle.lrc_code.specs.declared.codes.Code.TheVariants.{Wide}
 use Rattle.lrc_code.specs.declared.numbers.Fragment.{Fragment}
-use Rattle.lrc_code.specs.Codes.{fragments, fragment_count, has_fragment}
+use Rattle.lrc_code.specs.Codes.{fragments, fragment_count, has_fragment, all_fragments}
 use Rattle.lrc_code.specs.Losses.{bits_set}
 use Rattle.lrc_terms.proofs.CodeListLemmas.{fragment-number, few-fragments}
 
@@ -64,7 +63,7 @@ is_none-answer (Some x) true e = absurd (cc)
 is_none-answer (Some x) false e = refl
 
 -- the number of the fragment at a place of the array of all
-pub item-number : (items : List Fragment) (i : ℕ) (d : Fragment) → items ≡ fragments Wide → i < 16 → (get_or items i d).value ≡ i
+pub item-number : (items : List Fragment) (i : ℕ) (d : Fragment) → items ≡ all_fragments → i < 16 → (get_or items i d).value ≡ i
 item-number items i d all within = rw all (fragment-number i d within)
 
 -- ---- masks joined and taken apart

@@ -4,13 +4,12 @@ use Rattle.std.specs.List.{All, Contains}
 use Rattle.std.proofs.lemmas.Bool.{eqb-true, ltb-true, and_parts}
 use Rattle.std.proofs.lemmas.List.{get_or-map}
 use Rattle.std.proofs.lemmas.List.Elements.{All-nil, All-cons, All-append, All-map, All-contains, All-from_recursion, Contains-append_left, Contains-append_right}
-use Rattle.lrc_code.specs.declared.codes.Code.TheVariants.{Wide}
 use Rattle.lrc_code.specs.declared.numbers.StripeNo.{StripeNo}
 use Rattle.lrc_code.specs.declared.numbers.NodeNo.{NodeNo}
 use Rattle.lrc_code.specs.declared.numbers.UpgradeNo.{UpgradeNo}
 use Rattle.lrc_code.specs.declared.numbers.Fragment.{Fragment}
 use Rattle.lrc_code.specs.Numbers.{same_node, same_upgrade}
-use Rattle.lrc_code.specs.Codes.{fragments, fragment, fragment_count, has_fragment}
+use Rattle.lrc_code.specs.Codes.{all_fragments, fragment, fragment_count, has_fragment}
 use Rattle.lrc_topology.specs.declared.NodeInfo.{NodeInfo}
 use Rattle.lrc_topology.specs.declared.seat.Seat.{Seat}
 use Rattle.lrc_topology.specs.declared.seat.Held.{Held}
@@ -115,20 +114,20 @@ module _ (nodes : List NodeInfo) (store : AreNodes nodes) where
         abbrev home_of : Fragment → Option Seat
         home_of f = homes_of st.homes s f.value
 
-        none-behind : (d : Option Seat) (count k : ℕ) → count ≡ fragment_count (code_of st s) → count + k < 16 → get_or (map home_of (fragments Wide)) (count + k) d ≡ None
+        none-behind : (d : Option Seat) (count k : ℕ) → count ≡ fragment_count (code_of st s) → count + k < 16 → get_or (map home_of all_fragments) (count + k) d ≡ None
         none-behind d count k is within =
             let f = fragment (count + k) within in
-            get_or-map home_of (fragments Wide) (count + k) f d within
+            get_or-map home_of all_fragments (count + k) f d within
             ∙ ap (λ (n : ℕ). homes_of st.homes s n) (fragment-number (count + k) f within)
             ∙ lacking-none s f (homes_of st.homes s (count + k)) refl (omega (arith, is))
 
         stripe-readable : IsStripeRow (row_of_stripe st s)
         stripe-readable = record {
           all = refl;
-          homes = All-map IsHome home_of (fragments Wide) (All-members (λ f. IsHome (home_of f)) (fragments Wide) (λ f here. home-readable s f (home_of f) refl));
+          homes = All-map IsHome home_of all_fragments (All-members (λ f. IsHome (home_of f)) all_fragments (λ f here. home-readable s f (home_of f) refl));
           none = λ k d within.
               let count = fragment_count (code_of st s) in
-              let homes = map home_of (fragments Wide) in
+              let homes = map home_of all_fragments in
               get_or-drop count homes k d ∙ none-behind d count k refl (omega (arith, within, length-drop count homes));
         }
 
@@ -142,7 +141,7 @@ module _ (nodes : List NodeInfo) (store : AreNodes nodes) where
       leases-readable : All (λ l. l.expiry < 4294967296) st.leases → All (λ r. IsReadable (Lease r)) (lease_rows st)
       leases-readable early = All-members (λ r. IsReadable (Lease r)) (lease_rows st) (λ r here.
           let of_stripe = rows-member stripe_at (stripe_leases st) 4096 r here in
-          let of_fragment = flat-member (leases_at st of_stripe.0) (fragments Wide) r of_stripe.1 in
+          let of_fragment = flat-member (leases_at st of_stripe.0) all_fragments r of_stripe.1 in
           let own = row-lease st of_stripe.0 of_fragment.0 r of_fragment.2 in
           let l = own.0 in
           let there = leases_in-contains st.leases of_stripe.0 of_fragment.0.value l own.1 in
@@ -157,8 +156,8 @@ grants-readable past few = All-members (λ r. IsReadable (Grants r)) (grant_rows
     let own = there-row stripe_at (row_of_grants past) (λ s. tells_grants (row_of_grants past s)) 4096 r here in
     subst (λ (r : GrantRow). IsReadable (Grants r)) own.2 (
       refl,
-      All-map (λ n. n < 4294967296) (λ (f : Fragment). grants past own.0 f) (fragments Wide)
-          (All-members (λ f. grants past own.0 f < 4294967296) (fragments Wide) (λ f there. let low = few own.0 f in omega (arith, low))),
+      All-map (λ n. n < 4294967296) (λ (f : Fragment). grants past own.0 f) all_fragments
+          (All-members (λ f. grants past own.0 f < 4294967296) all_fragments (λ f there. let low = few own.0 f in omega (arith, low))),
     ))
 
 -- ---- the image

@@ -9,7 +9,7 @@ use Rattle.lrc_code.specs.declared.numbers.StripeNo.{StripeNo}
 use Rattle.lrc_code.specs.declared.numbers.Fragment.{Fragment}
 use Rattle.lrc_code.specs.declared.numbers.NodeNo.{NodeNo}
 use Rattle.lrc_code.specs.Numbers.{same_node, same_stripe}
-use Rattle.lrc_code.specs.Codes.{fragments}
+use Rattle.lrc_code.specs.Codes.{all_fragments}
 use Rattle.lrc_code.proofs.NumbersLemmas.{equal_nodes, equal_fragments, equal_stripes}
 use Rattle.lrc_topology.specs.declared.NodeInfo.{NodeInfo}
 use Rattle.lrc_topology.specs.declared.seat.Seat.{Seat}
@@ -55,8 +55,8 @@ module _ (past : List Entry) (s : StripeNo) (f : Fragment) where
 
   count-is : get_or (row_of_grants past s).granted f.value 0 ≡ grants past s f
   count-is =
-      get_or-map (λ (g : Fragment). grants past s g) (fragments Wide) f.value f 0 f.in_range
-      ∙ ap (λ (g : Fragment). grants past s g) (equal_fragments (get_or (fragments Wide) f.value f) f (fragment-number f.value f f.in_range))
+      get_or-map (λ (g : Fragment). grants past s g) all_fragments f.value f 0 f.in_range
+      ∙ ap (λ (g : Fragment). grants past s g) (equal_fragments (get_or all_fragments f.value f) f (fragment-number f.value f f.in_range))
 
   grants-by : (b : Bool) → tells s ≡ b → grants past s f ≡ grants (earlier (grant_rows past)) s f
   grants-by true hit =
@@ -65,7 +65,7 @@ module _ (past : List Entry) (s : StripeNo) (f : Fragment) where
   grants-by false miss =
       let counts = λ (g : Fragment). nat_lt 0 (get_or (row_of_grants past s).granted g.value 0) in
       let zero_here = ltb-false 0 (get_or (row_of_grants past s).granted f.value 0)
-      (All-contains (λ g. counts g ≡ false) (fragments Wide) f (All-list_any counts (fragments Wide) miss) (wide-fragment f)) in
+      (All-contains (λ g. counts g ≡ false) all_fragments f (All-list_any counts all_fragments miss) (wide-fragment f)) in
       let zero_there = none-granted s f (grant_rows past) (λ r here same.
       let own = there-row stripe_at (row_of_grants past) tells 4096 r here in
       let hit = subst (λ (t : StripeNo). tells t ≡ true) (ap (λ (r : GrantRow). r.stripe) own.2 ∙ same) own.1 in
@@ -124,7 +124,7 @@ module _ (st : State) where
 
   home-at : (s : StripeNo) (f : Fragment) → get_or (row_of_stripe st s).homes f.value None ≡ homes_of st.homes s f.value
   home-at s f =
-      get_or-map (λ (g : Fragment). homes_of st.homes s g.value) (fragments Wide) f.value f None f.in_range
+      get_or-map (λ (g : Fragment). homes_of st.homes s g.value) all_fragments f.value f None f.in_range
       ∙ ap (λ k. homes_of st.homes s k) (fragment-number f.value f f.in_range)
 
   same-homes : (nodes : List NodeInfo) → AreSeated nodes st → HaveSame st.homes (flat_map row_homes (stripe_rows st))
@@ -135,11 +135,11 @@ module _ (st : State) where
         (Contains-append_left st.homes (map held_by st.leases) h here)) in
         let home = home-at h.stripe h.fragment ∙ home-found st.homes seated.one_home h here in
         member-flat row_homes (stripe_rows st) row h (stripe-row h.stripe there)
-        (member-flat (homes_at row) (fragments Wide) h.fragment h (wide-fragment h.fragment)
+        (member-flat (homes_at row) all_fragments h.fragment h (wide-fragment h.fragment)
         (subst (λ (o : Option Seat). Contains (home_list h.stripe h.fragment o) h) (sym home) (Contains-here h []))),
     λ here.
         let m = flat-member row_homes (stripe_rows st) h here in
-        let k = flat-member (homes_at m.0) (fragments Wide) h m.2 in
+        let k = flat-member (homes_at m.0) all_fragments h m.2 in
         let own = home-own m.0.stripe k.0 (get_or m.0.homes k.0.value None) h k.2 in
         let home : homes_of st.homes m.0.stripe k.0.value ≡ Some h.seat =
         sym (home-at m.0.stripe k.0) ∙ ap (λ (r : StripeRow). get_or r.homes k.0.value None) (row-own m.0 m.1).1 ∙ own.2 in
@@ -161,13 +161,13 @@ module _ (st : State) where
       λ here.
           let found = contains-leases_in st.leases l good.seated.one_lease here in
           let row = member-rows stripe_at (stripe_leases st) 4096 l.stripe.value l.stripe (lease_row l) l.stripe.in_range (own-number l.stripe)
-          (member-flat (leases_at st l.stripe) (fragments Wide) l.fragment (lease_row l) (wide-fragment l.fragment)
+          (member-flat (leases_at st l.stripe) all_fragments l.fragment (lease_row l) (wide-fragment l.fragment)
           (listed-some (option_map lease_row (lease_of st l.stripe l.fragment)) (lease_row l) (ap (option_map lease_row) found))) in
           subst (Contains (map (row_lease before) (lease_rows st))) (lease-is l here) (map-member (row_lease before) (lease_rows st) (lease_row l) row),
       λ here.
           let m = member-map (row_lease before) (lease_rows st) l here in
           let k = rows-member stripe_at (stripe_leases st) 4096 m.0 m.1 in
-          let f = flat-member (leases_at st k.0) (fragments Wide) m.0 k.1 in
+          let f = flat-member (leases_at st k.0) all_fragments m.0 k.1 in
           let own = row-lease st k.0 f.0 m.0 f.2 in
           let there = leases_in-contains st.leases k.0 f.0.value own.0 own.1 in
           subst (Contains st.leases) (sym (lease-is own.0 there) ∙ ap (row_lease before) own.2 ∙ m.2) there,

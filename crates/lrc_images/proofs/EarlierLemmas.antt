@@ -8,7 +8,7 @@ use Rattle.lrc_code.specs.declared.codes.Code.TheVariants.{Wide}
 use Rattle.lrc_code.specs.declared.numbers.StripeNo.{StripeNo}
 use Rattle.lrc_code.specs.declared.numbers.Fragment.{Fragment}
 use Rattle.lrc_code.specs.Numbers.{same_stripe, same_fragment}
-use Rattle.lrc_code.specs.Codes.{fragments}
+use Rattle.lrc_code.specs.Codes.{all_fragments}
 use Rattle.lrc_code.proofs.NumbersLemmas.{equal_stripes, equal_fragments}
 use Rattle.lrc_terms.proofs.CodeListLemmas.{code-fragments}
 use Rattle.lrc_rules.specs.declared.entry.Entry.{Entry}
@@ -20,7 +20,7 @@ use Rattle.lrc_images.specs.Images.{some_grant, row_grants, earlier}
 use Rattle.lrc_images.specs.Rising.{grant_first, IsRising}
 
 -- each fragment is one of the sixteen
-pub wide-fragment : (f : Fragment) → Contains (fragments Wide) f
+pub wide-fragment : (f : Fragment) → Contains all_fragments f
 wide-fragment f = code-fragments Wide f (lt-ltb f.value 16 f.in_range)
 
 -- the count that the row has for a fragment of the stripe
@@ -84,8 +84,8 @@ module _ (s : StripeNo) (f : Fragment) where
   grants-row r =
       let count = λ (g : Fragment). get_or r.granted g.value 0 in
       elim (cases_Bool (same_stripe r.stripe s)) [
-        | inl own ↦ one-of r.stripe count (fragments Wide) (fragments-distinct Wide) (wide-fragment f) own ∙ rw own refl
-        | inr other ↦ no-stripe r.stripe count (fragments Wide) other ∙ rw other refl
+        | inl own ↦ one-of r.stripe count all_fragments (fragments-distinct Wide) (wide-fragment f) own ∙ rw own refl
+        | inr other ↦ no-stripe r.stripe count all_fragments other ∙ rw other refl
       ]
 
   pub grants-earlier : (rows : List GrantRow) → grants (earlier rows) s f ≡ sum_by (counted s f) rows

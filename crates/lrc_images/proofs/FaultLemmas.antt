@@ -7,12 +7,11 @@ use Rattle.std.proofs.lemmas.Bool.{cases_Bool, ltb-true, ltb-false, lt-ltb, le-l
 use Rattle.std.proofs.lemmas.List.Elements.{All-nil, All-cons, All-head, All-tail, All-contains, All-weaker, Contains-push}
 use Rattle.std.proofs.lemmas.List.Sums.{sum_by-cons}
 use Rattle.lrc_code.specs.declared.codes.Code.{Code}
-use Rattle.lrc_code.specs.declared.codes.Code.TheVariants.{Wide}
 use Rattle.lrc_code.specs.declared.numbers.StripeNo.{StripeNo}
 use Rattle.lrc_code.specs.declared.numbers.UpgradeNo.{UpgradeNo}
 use Rattle.lrc_code.specs.declared.numbers.Fragment.{Fragment}
 use Rattle.lrc_code.specs.Numbers.{same_stripe, same_upgrade}
-use Rattle.lrc_code.specs.Codes.{fragments}
+use Rattle.lrc_code.specs.Codes.{all_fragments}
 use Rattle.lrc_code.proofs.NumbersLemmas.{equal_stripes}
 use Rattle.lrc_topology.specs.declared.NodeInfo.{NodeInfo}
 use Rattle.lrc_topology.specs.declared.seat.Held.{Held}
@@ -158,19 +157,19 @@ no-grants r =
     let some = λ (f : Fragment). nat_lt 0 (get_or r.granted f.value 0) in (
       λ hit f.
           let low = ltb-false 0 (get_or r.granted f.value 0)
-          (All-contains (λ f. some f ≡ false) (fragments Wide) f (All-list_any some (fragments Wide) (flips-true (tells_grants r) hit)) (wide-fragment f)) in
+          (All-contains (λ f. some f ≡ false) all_fragments f (All-list_any some all_fragments (flips-true (tells_grants r) hit)) (wide-fragment f)) in
           omega (arith, low),
       λ none.
           not_from_false (tells_grants r)
-          (list_any-All some (fragments Wide) (All-members (λ f. some f ≡ false) (fragments Wide) (λ f here.
+          (list_any-All some all_fragments (All-members (λ f. some f ≡ false) all_fragments (λ f here.
           let is = none f in le-ltb 0 (get_or r.granted f.value 0) (omega (arith, is))))),
     )
 
-many-grants : (r : GrantRow) → (list_any (λ f. nat_lt most_grants (get_or r.granted f.value 0)) (fragments Wide) ≡ true) ↔ ((f : Fragment) × (most_grants < get_or r.granted f.value 0))
+many-grants : (r : GrantRow) → (list_any (λ f. nat_lt most_grants (get_or r.granted f.value 0)) all_fragments ≡ true) ↔ ((f : Fragment) × (most_grants < get_or r.granted f.value 0))
 many-grants r =
     let many = λ (f : Fragment). nat_lt most_grants (get_or r.granted f.value 0) in (
-      λ hit. let m = member-list_any many (fragments Wide) hit in (m.0, ltb-true most_grants (get_or r.granted m.0.value 0) m.2),
-      λ p. list_any-member many (fragments Wide) p.0 (wide-fragment p.0) (lt-ltb most_grants (get_or r.granted p.0.value 0) p.1),
+      λ hit. let m = member-list_any many all_fragments hit in (m.0, ltb-true most_grants (get_or r.granted m.0.value 0) m.2),
+      λ p. list_any-member many all_fragments p.0 (wide-fragment p.0) (lt-ltb most_grants (get_or r.granted p.0.value 0) p.1),
     )
 
 pub grant-first : (before : List GrantRow) (r : GrantRow) (c : Cause) → (grant_cause before r ≡ Some c) ↔ IsFirst (IsGrantFault before r) grant_causes c
@@ -179,7 +178,7 @@ grant-first before r c =
     first-if (is_out_of_order grant_first before r) cause.OutOfOrder c _ (fault cause.OutOfOrder) (IsFirst fault (cause.SaysNothing ∷ cause.TooManyGrants ∷ []) c)
     (out-of-order grant_first before r (λ b. r.stripe.value ≤ b.stripe.value) (λ b. not-above b.stripe.value r.stripe.value))
     (λ _. first-if (not (tells_grants r)) cause.SaysNothing c _ (fault cause.SaysNothing) (IsFirst fault (cause.TooManyGrants ∷ []) c) (no-grants r)
-    (λ _. first-if (list_any (λ f. nat_lt most_grants (get_or r.granted f.value 0)) (fragments Wide)) cause.TooManyGrants c None (fault cause.TooManyGrants) ⊥ (many-grants r)
+    (λ _. first-if (list_any (λ f. nat_lt most_grants (get_or r.granted f.value 0)) all_fragments) cause.TooManyGrants c None (fault cause.TooManyGrants) ⊥ (many-grants r)
     (λ _. first-none c)))
 
 -- ---- leases

@@ -4,12 +4,11 @@ use Rattle.std.specs.List.{All, list_any}
 use Rattle.std.specs.Option.{option_map_or}
 use Rattle.std.proofs.lemmas.Bool.{ltb-true, ltb-false, leb-true, eqb-false, and_parts, and_from}
 use Rattle.std.proofs.lemmas.List.Elements.{All-contains}
-use Rattle.lrc_code.specs.declared.codes.Code.TheVariants.{Wide}
 use Rattle.lrc_code.specs.declared.numbers.NodeNo.{NodeNo}
 use Rattle.lrc_code.specs.declared.numbers.UpgradeNo.{UpgradeNo}
 use Rattle.lrc_code.specs.declared.numbers.StripeNo.{StripeNo}
 use Rattle.lrc_code.specs.declared.numbers.Fragment.{Fragment}
-use Rattle.lrc_code.specs.Codes.{fragments}
+use Rattle.lrc_code.specs.Codes.{all_fragments}
 use Rattle.lrc_topology.specs.declared.NodeInfo.{NodeInfo}
 use Rattle.lrc_topology.specs.Nodes.{node_at, has_domain}
 use Rattle.lrc_terms.specs.declared.mode.Mode.TheVariants.{Gone}
@@ -115,12 +114,12 @@ grant-row_is before r none =
     let many = λ (f : Fragment). nat_lt most_grants (get_or r.granted f.value 0) in
     let order = if-none (is_out_of_order grant_first before r) cause.OutOfOrder _ none in
     let telling = if-none (not (tells_grants r)) cause.SaysNothing _ order.1 in
-    let few = if-none (list_any many (fragments Wide)) cause.TooManyGrants None telling.1 in
+    let few = if-none (list_any many all_fragments) cause.TooManyGrants None telling.1 in
     record {
       after = comes-after grant_first before r order.0;
       tells = flips-false (tells_grants r) telling.0;
       few = λ f. ltb-false most_grants (get_or r.granted f.value 0)
-          (All-contains (λ f. many f ≡ false) (fragments Wide) f (All-list_any many (fragments Wide) few.0) (wide-fragment f));
+          (All-contains (λ f. many f ≡ false) all_fragments f (All-list_any many all_fragments few.0) (wide-fragment f));
     }
 
 -- what is said of a lease's row

@@ -2,9 +2,8 @@
 use Rattle.std.proofs.Common.{◌≡◌, ℕ, ◌&&◌, if◌then◌else◌, List, map, flat_map, Some, None, option_map, is_some, ◌∙◌}
 use Rattle.std.specs.Prelude.{option_to_list}
 use Rattle.std.proofs.Math.Path.{fun_ext}
-use Rattle.lrc_code.specs.declared.codes.Code.TheVariants.{Wide}
 use Rattle.lrc_code.specs.declared.numbers.Fragment.{Fragment}
-use Rattle.lrc_code.specs.Codes.{fragments}
+use Rattle.lrc_code.specs.Codes.{all_fragments}
 use Rattle.lrc_topology.specs.declared.NodeInfo.{NodeInfo}
 use Rattle.lrc_topology.specs.Nodes.{node_at}
 use Rattle.lrc_terms.specs.Stripes.{stripe_at}
@@ -38,7 +37,7 @@ module _ (nodes : List NodeInfo) (w v : State) (alike : AreAlike w v) where
     stripe-same =
         let code = alike-code w v alike in
         let homes = alike-homes nodes w v alike seated seated' in
-        λ i s. record { stripe = s; code = code i s; homes = map (λ (f : Fragment). homes i s f.value) (fragments Wide) }
+        λ i s. record { stripe = s; code = code i s; homes = map (λ (f : Fragment). homes i s f.value) all_fragments }
 
     -- the same stripes, with the same codes and homes
     pub alike-stripe_rows : stripe_rows w ≡ stripe_rows v
@@ -50,13 +49,13 @@ module _ (nodes : List NodeInfo) (w v : State) (alike : AreAlike w v) where
     pub alike-lease_rows : lease_rows w ≡ lease_rows v
     alike-lease_rows =
         let leases = alike-leases nodes w v alike seated seated' in
-        λ i. rows_below stripe_at (λ s. flat_map (λ (f : Fragment). option_to_list (option_map lease_row (leases i s f.value))) (fragments Wide)) 4096
+        λ i. rows_below stripe_at (λ s. flat_map (λ (f : Fragment). option_to_list (option_map lease_row (leases i s f.value))) all_fragments) 4096
 
 module _ (past past' : List Entry) (same : HaveSameGrants past past') where
   grants-same : row_of_grants past ≡ row_of_grants past'
   grants-same =
       let counts : grants past ≡ grants past' = fun_ext (λ s. fun_ext (λ f. same s f)) in
-      λ i s. record { stripe = s; granted = map (λ (f : Fragment). counts i s f) (fragments Wide) }
+      λ i s. record { stripe = s; granted = map (λ (f : Fragment). counts i s f) all_fragments }
 
   -- the same counts of grants
   pub alike-grant_rows : grant_rows past ≡ grant_rows past'

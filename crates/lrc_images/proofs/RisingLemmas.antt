@@ -9,7 +9,7 @@ use Rattle.lrc_code.specs.declared.numbers.StripeNo.{StripeNo}
 use Rattle.lrc_code.specs.declared.numbers.NodeNo.{NodeNo}
 use Rattle.lrc_code.specs.declared.numbers.Fragment.{Fragment}
 use Rattle.lrc_code.specs.Numbers.{same_stripe, same_node}
-use Rattle.lrc_code.specs.Codes.{fragments}
+use Rattle.lrc_code.specs.Codes.{all_fragments}
 use Rattle.lrc_code.proofs.NumbersLemmas.{equal_nodes}
 use Rattle.lrc_topology.specs.declared.seat.Seat.{Seat}
 use Rattle.lrc_topology.specs.declared.seat.Held.{Held}
@@ -124,14 +124,14 @@ module _ (r : StripeRow) where
   -- each home of the row is of its stripe
   pub row-stripe : (h : Held) → Contains (row_homes r) h → h.stripe ≡ r.stripe
   row-stripe h here =
-      let m = flat-member homes_at (fragments Wide) h here in (home-own r.stripe m.0 (get_or r.homes m.0.value None) h m.2).0
+      let m = flat-member homes_at all_fragments h here in (home-own r.stripe m.0 (get_or r.homes m.0.value None) h m.2).0
 
   row-homes-single : AllPairs AreOneHome (row_homes r)
   row-homes-single =
       pairs-flat AreOneHome (λ f g. f ≢ g) homes_at (λ f. home-single AreOneHome r.stripe f (get_or r.homes f.value None))
       (λ f g h k other here there stripe fragment.
       other (sym (home-own r.stripe f (get_or r.homes f.value None) h here).1 ∙ fragment ∙ (home-own r.stripe g (get_or r.homes g.value None) k there).1))
-      (fragments Wide) (fragments-distinct Wide)
+      all_fragments (fragments-distinct Wide)
 
 pub homes-single : (rows : List StripeRow) → IsRising stripe_first rows → AllPairs AreOneHome (flat_map row_homes rows)
 homes-single rows rising =

@@ -5,11 +5,10 @@ use Rattle.std.proofs.lemmas.Bool.{cases_Bool, ltb-true, eqb-true, eq-eqb, false
 use Rattle.std.proofs.lemmas.Bool.Decides.{nat_tests}
 use Rattle.std.proofs.lemmas.List.Elements.{All-contains}
 use Rattle.lrc_code.specs.declared.codes.Code.{Code}
-use Rattle.lrc_code.specs.declared.codes.Code.TheVariants.{Wide}
 use Rattle.lrc_code.specs.declared.numbers.StripeNo.{StripeNo}
 use Rattle.lrc_code.specs.declared.numbers.Fragment.{Fragment}
 use Rattle.lrc_code.specs.Numbers.{same_stripe}
-use Rattle.lrc_code.specs.Codes.{fragments, fragment}
+use Rattle.lrc_code.specs.Codes.{fragments, fragment, all_fragments}
 use Rattle.lrc_code.proofs.NumbersLemmas.{equal_stripes}
 use Rattle.lrc_topology.specs.declared.seat.Seat.{Seat}
 use Rattle.lrc_terms.specs.Levels.{Homes, homes_of}
@@ -94,7 +93,7 @@ row-home rows rising r here f = same_answers (homes_of (homes_in rows) r.stripe 
         let h = held_on r.stripe f seat in
         let m = flat-member row_homes rows h (found-home (homes_in rows) r.stripe f seat is) in
         let same = one-stripe rows rising m.0 r m.1 here (sym (row-stripe m.0 h m.2)) in
-        let k = flat-member (homes_at r) (fragments Wide) h (subst (λ (r : StripeRow). Contains (row_homes r) h) same m.2) in
+        let k = flat-member (homes_at r) all_fragments h (subst (λ (r : StripeRow). Contains (row_homes r) h) same m.2) in
         let own = home-own r.stripe k.0 (get_or r.homes k.0.value None) h k.2 in
         ap (λ (g : Fragment). get_or r.homes g.value None) own.1 ∙ own.2
 
@@ -103,7 +102,7 @@ row-home rows rising r here f = same_answers (homes_of (homes_in rows) r.stripe 
         let h = held_on r.stripe f seat in
         home-found (homes_in rows) (homes-single rows rising) h
         (member-flat row_homes rows r h here
-        (member-flat (homes_at r) (fragments Wide) f h (wide-fragment f)
+        (member-flat (homes_at r) all_fragments f h (wide-fragment f)
         (subst (λ (o : Option Seat). Contains (home_list r.stripe f o) h) (sym is) (Contains-here h []))))
 
 -- ---- each row of one image is a row of the other
@@ -174,7 +173,7 @@ module _ (i j : Image) (rising : AreRising i) (rising' : AreRising j) (alike : A
           let m = member-list_any (λ (q : GrantRow). same_stripe q.stripe r.stripe) j.grants.items hit in
           (m.0, m.1, equal_stripes m.0.stripe r.stripe (eqb-true m.0.stripe.value r.stripe.value m.2))
       grant-row r here false miss = absurd (
-          let some = member-list_any (λ (f : Fragment). nat_lt 0 (get_or r.granted f.value 0)) (fragments Wide)
+          let some = member-list_any (λ (f : Fragment). nat_lt 0 (get_or r.granted f.value 0)) all_fragments
           (All-contains (λ r. tells_grants r ≡ true) i.grants.items r rising.telling_grants here) in
           let f = some.0 in
           let more = ltb-true 0 (get_or r.granted f.value 0) some.2 in

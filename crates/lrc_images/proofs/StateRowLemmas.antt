@@ -7,7 +7,7 @@ use Rattle.lrc_code.specs.declared.codes.Code.TheVariants.{Wide}
 use Rattle.lrc_code.specs.declared.numbers.StripeNo.{StripeNo}
 use Rattle.lrc_code.specs.declared.numbers.NodeNo.{NodeNo}
 use Rattle.lrc_code.specs.declared.numbers.Fragment.{Fragment}
-use Rattle.lrc_code.specs.Codes.{fragments}
+use Rattle.lrc_code.specs.Codes.{all_fragments}
 use Rattle.lrc_topology.specs.declared.NodeInfo.{NodeInfo}
 use Rattle.lrc_topology.specs.Nodes.{node_at}
 use Rattle.lrc_terms.specs.Stripes.{stripe_at}
@@ -92,7 +92,7 @@ module _ (st : State) where
       )
 
   row-stripe : (s : StripeNo) (r : LeaseRow) → Contains (stripe_leases st s) r → r.stripe ≡ s
-  row-stripe s r here = let m = flat-member (leases_at s) (fragments Wide) r here in (row-fragment s m.0 r m.2).0
+  row-stripe s r here = let m = flat-member (leases_at s) all_fragments r here in (row-fragment s m.0 r m.2).0
 
   abbrev IsAhead : LeaseRow → LeaseRow → Type 0
   IsAhead a b = lease_first a b ≡ true
@@ -109,7 +109,7 @@ module _ (st : State) where
       or_right (nat_lt a.stripe.value b.stripe.value) (nat_eq a.stripe.value b.stripe.value && nat_lt a.fragment.value b.fragment.value)
       (and_from (nat_eq a.stripe.value b.stripe.value) (nat_lt a.fragment.value b.fragment.value) (eq-eqb a.stripe.value b.stripe.value same)
       (lt-ltb a.fragment.value b.fragment.value (omega (arith, less, fragment, other)))))
-      (fragments Wide) (code-rising Wide)
+      all_fragments (code-rising Wide)
 
   leases-rise : IsRising lease_first (lease_rows st)
   leases-rise =

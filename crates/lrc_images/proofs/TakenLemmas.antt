@@ -7,11 +7,10 @@ use Rattle.std.proofs.lemmas.List.{map-append}
 use Rattle.std.proofs.lemmas.List.Concat.{flat_map-append}
 use Rattle.std.proofs.lemmas.List.Elements.{All-contains, All-weaker, Contains-append_right, Contains-push}
 use Rattle.lrc_code.specs.declared.codes.Code.{Code}
-use Rattle.lrc_code.specs.declared.codes.Code.TheVariants.{Wide}
 use Rattle.lrc_code.specs.declared.numbers.StripeNo.{StripeNo}
 use Rattle.lrc_code.specs.declared.numbers.UpgradeNo.{UpgradeNo}
 use Rattle.lrc_code.specs.declared.numbers.Fragment.{Fragment}
-use Rattle.lrc_code.specs.Codes.{fragments, has_fragment}
+use Rattle.lrc_code.specs.Codes.{all_fragments, has_fragment}
 use Rattle.lrc_topology.specs.declared.NodeInfo.{NodeInfo}
 use Rattle.lrc_topology.specs.declared.seat.Held.{Held}
 use Rattle.lrc_topology.specs.Nodes.{node_at, has_domain}
@@ -193,8 +192,8 @@ module _ (nodes : List NodeInfo) (i : Image) (rising : AreRising i) (base : IsBa
       (earlier-pairs (λ a b. grant_first a b ≡ true) before r later (subst (AllPairs (λ a b. grant_first a b ≡ true)) is rising.grants)))
       (none-if (not (tells_grants r)) cause.SaysNothing _
       (not_from_true (tells_grants r) (All-contains (λ r. tells_grants r ≡ true) i.grants.items r rising.telling_grants here))
-      (none-if (list_any many (fragments Wide)) cause.TooManyGrants None
-      (list_any-All many (fragments Wide) (All-members (λ f. many f ≡ false) (fragments Wide) (λ f among.
+      (none-if (list_any many all_fragments) cause.TooManyGrants None
+      (list_any-All many all_fragments (All-members (λ f. many f ≡ false) all_fragments (λ f among.
       let low = counted-most i.grants.items r f here in
       let high = base.counts r.stripe f in le-ltb most_grants (get_or r.granted f.value 0) (omega (arith, low, high)))))
       refl))

@@ -3,8 +3,7 @@
 use Rattle.std.specs.Prelude.{ℕ, ◌+◌, Bool, false, not, ◌&&◌, if◌then◌else◌, nat_lt, nat_le, nat_eq, List, [], ◌∷◌, ◌++◌, map, filter, flat_map, length, get_or, Option, Some, None, option_map, is_none}
 use Rattle.std.specs.List.{list_any}
 use Rattle.std.specs.Option.{option_or, option_map_or}
-use Rattle.lrc_code.specs.declared.codes.Code.TheVariants.{Wide}
-use Rattle.lrc_code.specs.Codes.{fragments, has_fragment}
+use Rattle.lrc_code.specs.Codes.{all_fragments, has_fragment}
 use Rattle.lrc_topology.specs.declared.NodeInfo.{NodeInfo}
 use Rattle.lrc_topology.specs.declared.seat.Held.{Held}
 use Rattle.lrc_topology.specs.Nodes.{node_at, has_domain}
@@ -115,7 +114,7 @@ abbrev pub grant_cause : List GrantRow → GrantRow → Option Cause
 grant_cause before r =
     cause_if (is_out_of_order grant_first before r) cause.OutOfOrder
     (cause_if (not (tells_grants r)) cause.SaysNothing
-    (cause_if (list_any (λ f. nat_lt most_grants (get_or r.granted f.value 0)) (fragments Wide)) cause.TooManyGrants None))
+    (cause_if (list_any (λ f. nat_lt most_grants (get_or r.granted f.value 0)) all_fragments) cause.TooManyGrants None))
 
 -- ---- leases
 

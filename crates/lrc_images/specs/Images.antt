@@ -6,7 +6,7 @@ use Rattle.lrc_code.specs.declared.codes.Code.TheVariants.{Wide, Narrow}
 use Rattle.lrc_code.specs.declared.numbers.StripeNo.{StripeNo}
 use Rattle.lrc_code.specs.declared.numbers.NodeNo.{NodeNo}
 use Rattle.lrc_code.specs.declared.numbers.Fragment.{Fragment}
-use Rattle.lrc_code.specs.Codes.{fragments}
+use Rattle.lrc_code.specs.Codes.{all_fragments}
 use Rattle.lrc_topology.specs.declared.seat.Seat.{Seat}
 use Rattle.lrc_topology.specs.declared.seat.Held.{Held}
 use Rattle.lrc_terms.specs.declared.lease.Lease.{Lease as LeaseRecord}
@@ -37,7 +37,7 @@ some_grant s f =
 
 -- an entry for each grant of the row
 abbrev pub row_grants : GrantRow → List Entry
-row_grants r = flat_map (λ f. replicate (get_or r.granted f.value 0) (some_grant r.stripe f)) (fragments Wide)
+row_grants r = flat_map (λ f. replicate (get_or r.granted f.value 0) (some_grant r.stripe f)) all_fragments
 
 -- an entry for each grant of the rows
 abbrev pub earlier : List GrantRow → List Entry
@@ -57,7 +57,7 @@ home_list s f (Some seat) = record { stripe = s; fragment = f; seat = seat } ∷
 
 -- the homes of the row's stripe
 abbrev pub row_homes : StripeRow → List Held
-row_homes r = flat_map (λ f. home_list r.stripe f (get_or r.homes f.value None)) (fragments Wide)
+row_homes r = flat_map (λ f. home_list r.stripe f (get_or r.homes f.value None)) all_fragments
 
 -- the lease of the row after these entries: its epoch is the number of grants of its fragment
 abbrev pub row_lease : List Entry → LeaseRow → LeaseRecord

@@ -1,8 +1,7 @@
 -- Images whose rows are in order.
 use Rattle.std.specs.Prelude.{◌≡◌, Bool, not, ◌&&◌, nat_lt, List, length, All, AllPairs, get_or, IsTrue}
 use Rattle.std.specs.List.{list_any}
-use Rattle.lrc_code.specs.declared.codes.Code.TheVariants.{Wide}
-use Rattle.lrc_code.specs.Codes.{fragments}
+use Rattle.lrc_code.specs.Codes.{fragments, all_fragments}
 use Rattle.lrc_terms.specs.Stripes.{comes_before}
 use Rattle.lrc_terms.specs.Modes.{is_active}
 use Rattle.lrc_images.specs.declared.image.NodeRow.{NodeRow}
@@ -38,7 +37,7 @@ tells_node r = not (is_active r.mode && not r.is_down)
 
 -- a lease of some fragment was granted
 abbrev pub tells_grants : GrantRow → Bool
-tells_grants r = list_any (λ f. nat_lt 0 (get_or r.granted f.value 0)) (fragments Wide)
+tells_grants r = list_any (λ f. nat_lt 0 (get_or r.granted f.value 0)) all_fragments
 
 -- The rows of each list are in rising order, and none says nothing.
 pub record AreRising (i : Image) : Type 0 where

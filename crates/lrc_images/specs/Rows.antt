@@ -3,8 +3,7 @@ use Rattle.std.specs.Prelude.{◌≡◌, ℕ, ◌&&◌, if◌then◌else◌, Lis
 use Rattle.std.specs.List.{range_with_len}
 use Rattle.lrc_code.specs.declared.numbers.StripeNo.{StripeNo}
 use Rattle.lrc_code.specs.declared.numbers.NodeNo.{NodeNo}
-use Rattle.lrc_code.specs.declared.codes.Code.TheVariants.{Wide}
-use Rattle.lrc_code.specs.Codes.{fragments}
+use Rattle.lrc_code.specs.Codes.{all_fragments}
 use Rattle.lrc_topology.specs.declared.NodeInfo.{NodeInfo}
 use Rattle.lrc_topology.specs.Nodes.{node_at}
 use Rattle.lrc_terms.specs.Levels.{homes_of}
@@ -46,7 +45,7 @@ node_rows nodes st = rows_below node_no (λ n. option_to_list (node_row nodes st
 
 -- a stripe with its code and homes
 abbrev pub row_of_stripe : State → StripeNo → StripeRow
-row_of_stripe st s = record { stripe = s; code = code_of st s; homes = map (λ f. homes_of st.homes s f.value) (fragments Wide) }
+row_of_stripe st s = record { stripe = s; code = code_of st s; homes = map (λ f. homes_of st.homes s f.value) all_fragments }
 
 -- the row of a stripe; none if the store has no such stripe
 abbrev pub stripe_row : State → StripeNo → Option StripeRow
@@ -60,7 +59,7 @@ stripe_rows st = rows_below stripe_at (λ s. option_to_list (stripe_row st s)) 4
 
 -- a stripe number with the number of leases granted for each fragment
 abbrev pub row_of_grants : List Entry → StripeNo → GrantRow
-row_of_grants past s = record { stripe = s; granted = map (λ f. grants past s f) (fragments Wide) }
+row_of_grants past s = record { stripe = s; granted = map (λ f. grants past s f) all_fragments }
 
 -- the row of a stripe number; none if no lease was granted for it
 abbrev pub grant_row : List Entry → StripeNo → Option GrantRow
@@ -78,7 +77,7 @@ lease_row l = record { stripe = l.stripe; fragment = l.fragment; holder = l.hold
 
 -- the rows of the leases of a stripe
 abbrev pub stripe_leases : State → StripeNo → List LeaseRow
-stripe_leases st s = flat_map (λ f. option_to_list (option_map lease_row (lease_of st s f))) (fragments Wide)
+stripe_leases st s = flat_map (λ f. option_to_list (option_map lease_row (lease_of st s f))) all_fragments
 
 -- the rows of the leases
 abbrev pub lease_rows : State → List LeaseRow

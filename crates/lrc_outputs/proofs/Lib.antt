@@ -3,6 +3,7 @@ pub mod SessionLemmas
 pub mod HistoryLemmas
 pub mod TurnLemmas
 pub mod PlayLemmas
+pub mod AmongLemmas
 pub mod TrackLemmas
 pub mod ErrorLemmas
 pub mod JudgedLemmas

@@ -8,11 +8,10 @@ use Rattle.std.proofs.lemmas.List.{length-map}
 use Rattle.std.proofs.lemmas.Nat.{mod_below}
 use Rattle.std.proofs.lemmas.List.FromFn.{length-map-range_with_len}
 use Rattle.std.proofs.Math.Nat.{mod-eq_of_lt}
-use Rattle.lrc_code.specs.declared.codes.Code.TheVariants.{Wide}
 use Rattle.lrc_code.specs.declared.numbers.StripeNo.{StripeNo}
 use Rattle.lrc_code.specs.declared.numbers.Fragment.{Fragment}
 use Rattle.lrc_code.specs.declared.numbers.UpgradeNo.{UpgradeNo}
-use Rattle.lrc_code.specs.Codes.{fragments}
+use Rattle.lrc_code.specs.Codes.{all_fragments}
 use Rattle.lrc_code.proofs.NumbersLemmas.{equal_fragments}
 use Rattle.lrc_topology.specs.declared.NodeInfo.{NodeInfo}
 use Rattle.lrc_terms.specs.Stripes.{stripe_at}
@@ -220,7 +219,7 @@ state-image nodes past st before = (
     nodes = vec_of (node_rows nodes st) (few-ones node_no (node_row nodes st) 65536 (omega arith));
     stripes = vec_of (stripe_rows st) (few-ones stripe_at (stripe_row st) 4096 (omega arith));
     grants = vec_of (grant_rows past) (few-ones stripe_at (grant_row past) 4096 (omega arith));
-    leases = vec_of (lease_rows st) (few-below stripe_at (stripe_leases st) (λ s. few-options (λ f. option_map lease_row (lease_of st s f)) (fragments Wide)) 4096 (omega arith));
+    leases = vec_of (lease_rows st) (few-below stripe_at (stripe_leases st) (λ s. few-options (λ f. option_map lease_row (lease_of st s f)) all_fragments) 4096 (omega arith));
   },
   record { before_is = refl; clock_is = refl; upgrading_is = refl; nodes_are = refl; stripes_are = refl; grants_are = refl; leases_are = refl },
 )

@@ -1,5 +1,5 @@
 -- A sequel has an answer.
-use Rattle.std.proofs.Common.{◌≡◌, ℕ, ◌+◌, ◌<◌, ◌≤◌, ◌⊎◌, inl, inr, Bool, true, false, nat_lt, List, [], ◌∷◌, ◌++◌, length, codes, Option, Some, None, Result, Ok, Err, refl, ap, arith, length-take}
+use Rattle.std.proofs.Common.{◌≡◌, ℕ, ◌+◌, ◌<◌, ◌≤◌, ◌⊎◌, inl, inr, Bool, true, false, not, nat_lt, List, [], ◌∷◌, ◌++◌, length, codes, Option, Some, None, Result, Ok, Err, refl, ap, arith, length-take}
 use Rattle.std.proofs.lemmas.Bool.{cases_lt, ltb-false}
 use Rattle.lrc_code.specs.declared.numbers.StripeNo.{StripeNo}
 use Rattle.lrc_code.specs.declared.numbers.Fragment.{Fragment}
@@ -17,7 +17,7 @@ use Rattle.lrc_forecast.specs.declared.outlook.Outage.{Outage}
 use Rattle.lrc_forecast.specs.Forecasts.{harms_none}
 use Rattle.lrc_groups.specs.declared.named.Named.{Named}
 use Rattle.lrc_groups.specs.Groups.{first_lacking, lacking_line}
-use Rattle.lrc_show.specs.Shown.{view_text, forecast_text}
+use Rattle.lrc_show.specs.Shown.{view_text, tells_danger, forecast_text}
 use Rattle.lrc_script.specs.Bundles.{Script}
 use Rattle.lrc_outputs.specs.declared.sequel.Goal.{Goal}
 use Rattle.lrc_outputs.specs.declared.sequel.Goal.TheVariants as to
@@ -94,7 +94,7 @@ some-reached to.Image nodes base before lists few =
     (text, status, (b, from, is))
 some-reached (to.Table view) nodes base before lists few =
     let (b, from) = some-book nodes base before lists few in
-    (view_text view b.nodes (state_of b) (b.before + length b.history), ended.Done, (b, from, (refl, refl)))
+    (view_text view b.nodes (state_of b) (b.before + length b.history), safety_status (not (tells_danger view b.nodes (state_of b))), (b, from, (refl, refl)))
 some-reached (to.Forecast outage named) nodes base before lists few = some-forecast (first_lacking nodes named.now) outage named.now nodes base before lists few
 
 some-going : (goal : Goal) (nodes : List NodeInfo) (start : Start) (scripts : List Script) → length scripts ≤ 1 → first_bad_of scripts ≡ None

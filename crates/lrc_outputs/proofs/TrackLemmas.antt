@@ -38,6 +38,7 @@ use Rattle.lrc_outputs.specs.Faults.{stop_fault, first_fault}
 use Rattle.lrc_text.specs.Texts.{reply_line, lines_from, script_line}
 use Rattle.lrc_text.proofs.WholeTexts.{script_text, replies_text}
 use Rattle.lrc_outputs.specs.Plays.{AreMade, batches_text, track_text, tracks_text}
+use Rattle.lrc_outputs.proofs.AmongLemmas.{all_among, AreFrom, made_at, same_count}
 
 -- ---- what is printed of batches
 
@@ -120,107 +121,6 @@ module _ (session : ℕ) (history : List Entry) where
         made = ap (map (λ (n : NumberedEntry). n.entry.command)) (sym same) ∙ f.made;
         printed = ap (λ t. script_line session ++ t) (sym f.printed) ∙ ap (λ ns. script_line session ++ flat_map line ns) same;
       }
-
--- ---- nobody else
-
-abbrev IsAmong : ℕ → Entry → Bool
-IsAmong count e = nat_le e.session.value count
-
-none_among : (v : ℕ) → 1 ≤ v → only (nat_le v 0) 1 ≡ 0
-none_among v low = grind (arith, nat_tests)
-
-one_among : (v n : ℕ) → only (nat_le v n) 1 + only (nat_eq v (suc n)) 1 ≡ only (nat_le v (suc n)) 1
-one_among v n = grind (arith, nat_tests)
-
-count_none : (h : List Entry) → count_by (IsAmong 0) h ≡ 0
-count_none [] = refl
-count_none (e ∷ h) =
-    let all = sum_by-cons (λ (x : Entry). only (IsAmong 0 x) 1) e h in let none = none_among e.session.value e.session.in_range.0 in
-    let more = count_none h in omega (arith, all, none, more)
-
-count_one_more : (n : ℕ) (h : List Entry) → count_by (IsAmong n) h + made_in (suc n) h ≡ count_by (IsAmong (suc n)) h
-count_one_more n [] = refl
-count_one_more n (e ∷ h) =
-    let a = sum_by-cons (λ (x : Entry). only (IsAmong n x) 1) e h in
-    let b = sum_by-cons (λ (x : Entry). only (is_of (suc n) x) 1) e h in
-    let c = sum_by-cons (λ (x : Entry). only (IsAmong (suc n) x) 1) e h in
-    let one = one_among e.session.value n in
-    let more = count_one_more n h in
-    omega (arith, a, b, c, one, more)
-
-count_among : (n : ℕ) (h : List Entry) → total_made (counts_in n h) ≡ count_by (IsAmong n) h
-count_among zero h = sym (count_none h)
-count_among (suc n) h =
-    let next : suc n ≡ n + 1 = omega arith in
-    ap (λ k. total_made (counts_in k h)) next ∙ ap total_made (map-range_with_len_more (λ (k : ℕ). (k, made_in k h)) 1 n (suc n) (omega arith)) ∙ total_push (counts_in n h) (suc n, made_in (suc n) h)
-    ∙ ap (λ t. t + made_in (suc n) h) (count_among n h) ∙ count_one_more n h
-
-all_pass : {X : Type 0} (p : X → Bool) (xs : List X) → count_by p xs ≡ length xs → All (λ x. p x ≡ true) xs
-all_pass p [] all = All-nil (λ x. p x ≡ true)
-all_pass {X} p (x ∷ xs) all =
-    let sum = sum_by-cons (λ (y : X). only (p y) 1) x xs in
-    let most = count_by-le-length p xs in
-    elim (cases_Bool (p x)) [
-      | inl hit ↦
-          let one : only (p x) 1 ≡ 1 = ap (λ b. only b 1) hit in
-          All-cons (λ y. p y ≡ true) x xs hit (all_pass p xs (omega (arith, sum, one, all)))
-      | inr miss ↦ let none : only (p x) 1 ≡ 0 = ap (λ b. only b 1) miss in absurd (omega (arith, sum, none, all, most))
-    ]
-
--- where the sessions 1 to count made as many entries as there are, they made them all
-all_among : (count : ℕ) (h : List Entry) → length h ≡ total_made (counts_in count h) → All (λ e. e.session.value ≤ count) h
-all_among count h total =
-    All-weaker (λ e. IsAmong count e ≡ true) (λ e. e.session.value ≤ count) (λ e. leb-true e.session.value count) h
-    (all_pass (IsAmong count) h (sym (count_among count h) ∙ sym total))
-
--- ---- the count of a session
-
--- the sessions have the numbers from this one on
-abbrev AreFrom : ℕ → List SessionView → Type 0
-AreFrom first ss = (j : ℕ) (d : SessionView) → j < length ss → (get_or ss j d).number ≡ first + j
-
-later_from : (first : ℕ) (s : SessionView) (ss : List SessionView) → AreFrom first (s ∷ ss) → AreFrom (first + 1) ss
-later_from first s ss from j d low = omega (arith, from (suc j) d (omega arith))
-
-made_by : (n k m : ℕ) → n ≡ k → only (n == k) m ≡ m
-made_by n k m same = grind (arith, nat_tests)
-
-made_below : (n k m : ℕ) → n < k → only (n == k) m ≡ 0
-made_below n k m low = grind (arith, nat_tests)
-
-made_above : (n k m : ℕ) → k < n → only (n == k) m ≡ 0
-made_above n k m low = grind (arith, nat_tests)
-
-made_none : (k first : ℕ) (ss : List SessionView) → k < first → AreFrom first ss → made_of k ss ≡ 0
-made_none k first [] low from = refl
-made_none k first (s ∷ ss) low from =
-    let sum = sum_by-cons (λ (x : SessionView). only (x.number == k) x.made) s ss in
-    let number = from 0 s (omega arith) in
-    let one = made_above s.number k s.made (omega (arith, number, low)) in
-    let more = made_none k (first + 1) ss (omega (arith, low)) (later_from first s ss from) in
-    omega (arith, sum, one, more)
-
-made_at : (first i k : ℕ) (ss : List SessionView) (d : SessionView) → AreFrom first ss → i < length ss → k ≡ first + i → made_of k ss ≡ (get_or ss i d).made
-made_at first i k [] d from low is = absurd (omega (arith, low))
-made_at first zero k (s ∷ ss) d from low is =
-    let sum = sum_by-cons (λ (x : SessionView). only (x.number == k) x.made) s ss in
-    let number = from 0 s (omega arith) in
-    let one = made_by s.number k s.made (omega (arith, number, is)) in
-    let more = made_none k (first + 1) ss (omega (arith, is)) (later_from first s ss from) in
-    omega (arith, sum, one, more)
-made_at first (suc i) k (s ∷ ss) d from low is =
-    let sum = sum_by-cons (λ (x : SessionView). only (x.number == k) x.made) s ss in
-    let number = from 0 s (omega arith) in
-    let none = made_below s.number k s.made (omega (arith, number, is)) in
-    let more = made_at (first + 1) i k ss d (later_from first s ss from) (omega (arith, low)) (omega (arith, is)) in
-    omega (arith, sum, none, more)
-
-same_count : (n i : ℕ) (ss : List SessionView) (h : List Entry) → counts_of n ss ≡ counts_in n h → i < n → made_of (1 + i) ss ≡ made_in (1 + i) h
-same_count n i ss h same low =
-    let d : ℕ × ℕ = (0, 0) in
-    let left = get_or-map-range_with_len (λ (k : ℕ). (k, made_of k ss)) 1 n i (1 + i) d low refl in
-    let right = get_or-map-range_with_len (λ (k : ℕ). (k, made_in k h)) 1 n i (1 + i) d low refl in
-    ap (λ (c : ℕ × ℕ). c.1) (sym left ∙ ap (λ cs. get_or cs i d) same ∙ right)
 
 -- ---- scripts that were not stopped
 

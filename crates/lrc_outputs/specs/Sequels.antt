@@ -1,5 +1,5 @@
 -- What is written for a sequel, and how it ends: an image of a state, or none, and a bundle behind it.
-use Rattle.std.specs.Prelude.{◌≡◌, ◌≢◌, ◌⊎◌, ℕ, ◌+◌, ◌≤◌, min, Bool, true, false, ◌&&◌, if◌then◌else◌, nat_lt, nat_eq}
+use Rattle.std.specs.Prelude.{◌≡◌, ◌≢◌, ◌⊎◌, ℕ, ◌+◌, ◌≤◌, min, Bool, true, false, not, ◌&&◌, if◌then◌else◌, nat_lt, nat_eq}
 use Rattle.std.specs.Prelude.{List, [], ◌∷◌, length, take, drop, count_by, All, slice_index, codes}
 use Rattle.std.specs.Prelude.{Option, Some, None, Result, Ok, Err}
 use Rattle.std.specs.List.{starts_with}
@@ -21,7 +21,7 @@ use Rattle.lrc_forecast.specs.Forecasts.{forecast, harms_none}
 use Rattle.lrc_groups.specs.declared.named.Named.{Named}
 use Rattle.lrc_groups.specs.Groups.{numbers_in, first_lacking, lacking_line}
 use Rattle.lrc_show.specs.declared.view.View.{View}
-use Rattle.lrc_show.specs.Shown.{view_text, forecast_text}
+use Rattle.lrc_show.specs.Shown.{view_text, tells_danger, forecast_text}
 use Rattle.lrc_script.specs.Scripts.{lines_of, same_text}
 use Rattle.lrc_script.specs.Bundles.{Script}
 use Rattle.lrc_outputs.specs.declared.sequel.Goal.{Goal}
@@ -142,15 +142,15 @@ IsImaged b text status =
     (IsSpent b × (text ≡ refusal_line refusal.FullImage) × (status ≡ ended.Refused))
     ⊎ ((IsSpent b → ⊥) × (status ≡ ended.Done) × (i : Image) × IsImageOfBook b i × (text ≡ image_text i))
 
--- the table of a book's state that is asked for
-abbrev pub IsTable : View → BookView → List ℕ → Status → Type 0
-IsTable view b text status =
-    (text ≡ view_text view b.nodes (state_of b) (b.before + length b.history)) × (status ≡ ended.Done)
-
--- how a forecast ends, by whether it is safe
+-- how a command ends that tells whether a store is safe
 abbrev pub safety_status : Bool → Status
 safety_status true = ended.Done
 safety_status false = ended.Unsafe
+
+-- the table of a book's state that is asked for, and whether it tells of danger
+abbrev pub IsTable : View → BookView → List ℕ → Status → Type 0
+IsTable view b text status =
+    (text ≡ view_text view b.nodes (state_of b) (b.before + length b.history)) × (status ≡ safety_status (not (tells_danger view b.nodes (state_of b))))
 
 -- what would become of the stripes in a book's state if this happened to all nodes that are named
 abbrev pub forecast_of : Outage → List Named → BookView → List Outlook

@@ -63,8 +63,8 @@ fn forecast_output(
     Ok(Output::answer(text, status))
 }
 
-/// How a forecast ends.
-fn safety_status(is_safe: bool) -> Status
+/// How a command ends that tells whether a store is safe.
+pub(crate) fn safety_status(is_safe: bool) -> Status
     ensures status { result ≡ safety_status is_safe }
     ensures answer { is_answer result ≡ true }
 {

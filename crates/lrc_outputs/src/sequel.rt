@@ -4,12 +4,12 @@ ghost use Rattle.std.specs.Prelude.{◌≡◌, ◌≤◌, [], length, IfOk, IfEr
 ghost use Rattle.lrc_images.specs.Causes.{most_entries};
 ghost use Rattle.lrc_outputs.specs.Judged.{lists_of, AreFew};
 ghost use Rattle.lrc_outputs.specs.OutputErrors.{IsRefusedWith};
-ghost use Rattle.lrc_outputs.specs.Sequels.{IsImaged, IsReached, IsSequelOutput};
+ghost use Rattle.lrc_outputs.specs.Sequels.{IsImaged, IsTable, IsReached, IsSequelOutput};
 ghost use Rattle.lrc_streams.specs.declared.streams.RunFault.TheVariants as fault;
 
 use crate::begin::begin;
 use crate::error::OutputError;
-use crate::forecasting::forecast_after;
+use crate::forecasting::{forecast_after, safety_status};
 use crate::output::Output;
 use crate::play::{make_scripts, play_on};
 use lrc_book::{Book, Command, HISTORY_LIMIT};
@@ -18,7 +18,7 @@ use lrc_forecast::Outage;
 use lrc_groups::Named;
 use lrc_openings::image_text;
 use lrc_refusals::InputRefusal;
-use lrc_show::{View, shown};
+use lrc_show::{View, shown, tells_danger};
 use lrc_streams::RunFault;
 use std::alloc::Global;
 
@@ -85,11 +85,21 @@ fn reach(
         }
         Goal::Table(view) => {
             make_scripts(book, scripts)?;
-            let text = shown(alloc, book, view)?;
-            Ok(Output::done(text))
+            let output = table_output(alloc, book, view)?;
+            Ok(output)
         }
         Goal::Forecast(outage, named) => forecast_after(alloc, book, scripts, outage, named),
     }
+}
+
+/// The output with a table of a book's state.
+fn table_output(alloc: Global, book: &Book, view: View) -> Result<Output, RunFault>
+    ensures output { IfOk result (λ o. IsTable view book.now o.text.items o.status) }
+    ensures err { IfErr result (λ e. e ≡ fault.OutOfMemory) }
+{
+    let text = shown(alloc, book, view)?;
+    let status = safety_status(!tells_danger(alloc, book, view)?);
+    Ok(Output::answer(text, status))
 }
 
 /// The output with the image of a book's state.

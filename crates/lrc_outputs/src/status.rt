@@ -7,6 +7,7 @@ pub enum Status {
     BadLine = 1,
     /// The bundle, its topology or the mask is refused.
     Refused = 2,
-    /// An outage is not safe: its forecast was told, and a stripe becomes unavailable or lost.
+    /// An outage is not safe: its forecast was told, and a stripe becomes unavailable or lost. Or the table of health was told, and
+    /// a stripe is unavailable, lost, or at margin 0.
     Unsafe = 4,
 }

@@ -157,15 +157,6 @@ impl ByRank {
         }
     }
 
-    /// Adds the stripes of all ranks to a set.
-    pub fn join(&self, set: &mut StripeSet)
-        ensures { has set.new ≡ λ s. has set.old s || list_any (λ ranked. has ranked s) self.now }
-    {
-        for ranked in self.sets.iter() {
-            ranked.join(set);
-        }
-    }
-
     /// Returns the first stripe of a rank from this number on.
     pub fn first_from(&self, rank: usize, from: usize) -> Option<StripeNo>
         requires { rank ≤ 4 }

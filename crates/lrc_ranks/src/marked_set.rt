@@ -86,13 +86,6 @@ impl MarkedSet {
         }
     }
 
-    /// Adds the stripes of this set to another.
-    pub(crate) fn join(&self, set: &mut StripeSet)
-        ensures { has set.new ≡ λ s. has set.old s || has self.now s }
-    {
-        set.insert_all(&self.set);
-    }
-
     /// Returns the first stripe of the set from this number on.
     pub(crate) fn first_from(&self, from: usize) -> Option<StripeNo>
         ensures { FindsNext (has self.now) from result }

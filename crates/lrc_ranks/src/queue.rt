@@ -80,13 +80,6 @@ impl Queue {
         self.ranks.is_empty()
     }
 
-    /// Adds the stripes of all ranks to a set.
-    pub fn join(&self, set: &mut StripeSet)
-        ensures { has set.new ≡ λ s. has set.old s || list_any (λ ranked. has ranked s) self.now }
-    {
-        self.ranks.join(set);
-    }
-
     /// Returns the stripes from a position on, in the order of repair.
     pub fn walk(&self, position: Position) -> Work<'_>
         requires { position.rank ≤ 4 }

@@ -9,7 +9,7 @@ use Rattle.lrc_code.specs.declared.codes.Code.{Code}
 use Rattle.lrc_code.specs.declared.codes.Code.TheVariants.{Wide}
 use Rattle.lrc_code.specs.declared.numbers.StripeNo.{StripeNo}
 use Rattle.lrc_code.specs.declared.numbers.Fragment.{Fragment}
-use Rattle.lrc_code.specs.Codes.{fragments}
+use Rattle.lrc_code.specs.Codes.{fragments, all_fragments}
 use Rattle.lrc_topology.specs.declared.NodeInfo.{NodeInfo}
 use Rattle.lrc_topology.specs.declared.seat.Seat.{Seat}
 use Rattle.lrc_topology.specs.declared.seat.Held.{Held}
@@ -75,10 +75,10 @@ stripe-kept st k kept code s absent stripes added =
 
 -- the homes of the first so many fragments, and those of the others
 abbrev pub homes_to : StripeRow → ℕ → List Held
-homes_to r i = flat_map (homes_at r) (take i (fragments Wide))
+homes_to r i = flat_map (homes_at r) (take i all_fragments)
 
 abbrev pub homes_from : StripeRow → ℕ → List Held
-homes_from r i = flat_map (homes_at r) (drop i (fragments Wide))
+homes_from r i = flat_map (homes_at r) (drop i all_fragments)
 
 -- none of the first so many fragments has a home with a cause
 abbrev pub AreClearTo : List NodeInfo → State → StripeRow → ℕ → Type 0
@@ -87,20 +87,20 @@ AreClearTo nodes st r i =
     ≡ first_answer (λ homes h. seat_cause nodes (with_more st homes) h) (homes_to r i) (homes_from r i)
 
 -- the next fragment
-module _ (r : StripeRow) (i : ℕ) (d : Fragment) (low : i < length (fragments Wide)) where
+module _ (r : StripeRow) (i : ℕ) (d : Fragment) (low : i < length all_fragments) where
   abbrev f : Fragment
-  f = get_or (fragments Wide) i d
+  f = get_or all_fragments i d
 
   -- with its home the homes are one fragment's more
   homes_to-more : homes_to r (i + 1) ≡ homes_to r i ++ homes_at r f
   homes_to-more =
-      ap (flat_map (homes_at r)) (take_more (fragments Wide) i d low)
-      ∙ flat_map-append (homes_at r) (take i (fragments Wide)) (f ∷ [])
+      ap (flat_map (homes_at r)) (take_more all_fragments i d low)
+      ∙ flat_map-append (homes_at r) (take i all_fragments) (f ∷ [])
       ∙ ap (λ (hs : List Held). homes_to r i ++ hs) (append-nil (homes_at r f))
 
   -- and those that are left are one fragment's less
   homes_from-more : homes_from r i ≡ homes_at r f ++ homes_from r (i + 1)
-  homes_from-more = ap (flat_map (homes_at r)) (drop_more (fragments Wide) i d low)
+  homes_from-more = ap (flat_map (homes_at r)) (drop_more all_fragments i d low)
 
   -- it has no home: nothing changes
   module _ (none : get_or r.homes f.value None ≡ None) where
@@ -153,13 +153,13 @@ module _ (r : StripeRow) (i : ℕ) (d : Fragment) (low : i < length (fragments W
   -- no home of the first fragments is the next one's
   to-other : (seat : Seat) → ¬ (Contains (homes_to r i) (held_on r.stripe f seat))
   to-other seat here =
-      let m = flat-member (homes_at r) (take i (fragments Wide)) (held_on r.stripe f seat) here in
+      let m = flat-member (homes_at r) (take i all_fragments) (held_on r.stripe f seat) here in
       let own = home-own r.stripe m.0 (get_or r.homes m.0.value None) (held_on r.stripe f seat) m.2 in
-      let split : fragments Wide ≡ take i (fragments Wide) ++ f ∷ drop (i + 1) (fragments Wide) =
-      sym (take-append-drop i (fragments Wide)) ∙ ap (λ (fs : List Fragment). take i (fragments Wide) ++ fs) (drop_more (fragments Wide) i d low) in
-      let apart = earlier-pairs (λ (g h : Fragment). g ≢ h) (take i (fragments Wide)) f (drop (i + 1) (fragments Wide))
+      let split : all_fragments ≡ take i all_fragments ++ f ∷ drop (i + 1) all_fragments =
+      sym (take-append-drop i all_fragments) ∙ ap (λ (fs : List Fragment). take i all_fragments ++ fs) (drop_more all_fragments i d low) in
+      let apart = earlier-pairs (λ (g h : Fragment). g ≢ h) (take i all_fragments) f (drop (i + 1) all_fragments)
       (subst (AllPairs (λ (g h : Fragment). g ≢ h)) split (fragments-distinct Wide)) in
-      All-contains (λ (g : Fragment). g ≢ f) (take i (fragments Wide)) m.0 apart m.1 (sym own.1)
+      All-contains (λ (g : Fragment). g ≢ f) (take i all_fragments) m.0 apart m.1 (sym own.1)
 
   -- so it has no home yet
   pub next-bare : (st : State) (k : Store) → homes_of st.homes r.stripe f.value ≡ None → IsOf (with_more st (homes_to r i)) k
@@ -173,11 +173,11 @@ module _ (r : StripeRow) (i : ℕ) (d : Fragment) (low : i < length (fragments W
       ])
 
 -- at the end all fragments are done
-module _ (r : StripeRow) (i : ℕ) (past : length (fragments Wide) ≤ i) where
+module _ (r : StripeRow) (i : ℕ) (past : length all_fragments ≤ i) where
   pub done-to : homes_to r i ≡ row_homes r
-  done-to = ap (flat_map (homes_at r)) (take_all i (fragments Wide) past)
+  done-to = ap (flat_map (homes_at r)) (take_all i all_fragments past)
 
   pub done-clear : (nodes : List NodeInfo) (st : State) → AreClearTo nodes st r i
       → first_answer (λ homes h. seat_cause nodes (with_more st homes) h) [] (row_homes r) ≡ None
   done-clear nodes st clear =
-      clear ∙ ap (λ (fs : List Fragment). first_answer (λ homes h. seat_cause nodes (with_more st homes) h) (homes_to r i) (flat_map (homes_at r) fs)) (drop_all i (fragments Wide) past)
+      clear ∙ ap (λ (fs : List Fragment). first_answer (λ homes h. seat_cause nodes (with_more st homes) h) (homes_to r i) (flat_map (homes_at r) fs)) (drop_all i all_fragments past)

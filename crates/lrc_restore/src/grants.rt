@@ -1,10 +1,9 @@
 ghost use Rattle.std.specs.Prelude.{◌≡◌, get_or, if◌then◌else◌, nat_lt, None, Some, IfErr, OnOk, IsOk};
 ghost use Rattle.std.specs.List.{list_any};
-ghost use Rattle.lrc_code.specs.declared.codes.Code.TheVariants.{Wide};
 ghost use Rattle.lrc_code.specs.declared.numbers.StripeNo.{StripeNo};
 ghost use Rattle.lrc_code.specs.declared.numbers.Fragment.{Fragment};
 ghost use Rattle.lrc_code.specs.Numbers.{same_stripe};
-ghost use Rattle.lrc_code.specs.Codes.{fragments};
+ghost use Rattle.lrc_code.specs.Codes.{all_fragments};
 ghost use Rattle.lrc_leases.specs.Granted.{none_granted, granted_in};
 ghost use Rattle.lrc_images.specs.Images.{earlier};
 ghost use Rattle.lrc_images.specs.Rising.{grant_first, IsRising};
@@ -69,7 +68,7 @@ impl Ordered for GrantRow {
 
 /// Whether a count is above a bound.
 fn has_above(counts: &[u32; FRAGMENTS], bound: u32) -> bool
-    ensures { result ≡ list_any (λ f. nat_lt bound (get_or counts.now f.value 0)) (fragments Wide) }
+    ensures { result ≡ list_any (λ f. nat_lt bound (get_or counts.now f.value 0)) all_fragments }
 {
     let all = Fragment::all();
     all.iter()

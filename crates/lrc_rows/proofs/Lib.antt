@@ -2,6 +2,8 @@ pub mod NodeLemmas
 pub mod NodeStateLemmas
 pub mod FreshLemmas
 pub mod RowsLemmas
+pub mod BecomeLemmas
+pub mod TurnLemmas
 pub mod SeatedLemmas
 pub mod ClearLemmas
 pub mod DomainLemmas

@@ -16,6 +16,7 @@ ghost use Rattle.lrc_code.specs.Losses.{bits_set};
 ghost use Rattle.lrc_rows.specs.Listed.{rows_in};
 
 mod following;
+mod one_row;
 
 use crate::node_table::NodeTable;
 use crate::row::Row;
@@ -25,6 +26,9 @@ use lrc_homes::{HomeDomains, Losses, masks};
 use lrc_ranks::{Planes, Position, Queue, StripeSet, Work};
 use lrc_terms::Level;
 use lrc_topology::Seat;
+use one_row::{
+    is_narrow, needs_of, planed, put_home, put_losses, put_missing, set_planes, work_rank,
+};
 use std::alloc::{AllocError, Global};
 use std::marker::Model;
 
@@ -395,99 +399,4 @@ fn zeros(alloc: Global, count: usize) -> Result<Vec<u16>, AllocError>
     ensures { IfOk result (λ v. v.items ≡ replicate count 0) }
 {
     vec![in alloc; 0; count]
-}
-
-/// Sets whether these fragments are missing, if there is a row.
-fn put_missing(row: &mut Option<Row>, fragments: LossMask, are_missing: bool)
-    ensures { IsRenewed (IsWithMissing fragments are_missing) row.old row.new }
-{
-    if let Some(row) = row {
-        row.losses.missing = masks::put(row.losses.missing, fragments, are_missing);
-    }
-}
-
-/// Sets the losses, if there is a row.
-fn put_losses(row: &mut Option<Row>, losses: Losses)
-    ensures { IsRenewed (IsWithLosses losses) row.old row.new }
-{
-    if let Some(row) = row {
-        row.losses = losses;
-    }
-}
-
-/// Sets or clears the home of a fragment, and sets the domains and the losses, if there is a row.
-fn put_home(
-    row: &mut Option<Row>,
-    fragment: Fragment,
-    home: Option<Seat>,
-    domains: HomeDomains,
-    losses: Losses,
-)
-    ensures { IsRenewed (IsRehomed fragment.value home domains losses) row.old row.new }
-{
-    if let Some(row) = row {
-        row.homes.put(fragment, home);
-        row.domains = domains;
-        row.losses = losses;
-    }
-}
-
-/// The fragments that need a lease, as bits; 0 without a row.
-fn needs_of(row: Option<&Row>) -> u16
-    ensures { result ≡ needs_of (option_copied row.entry) }
-{
-    match row {
-        Some(row) => row.losses.needs.bits,
-        None => 0,
-    }
-}
-
-/// The rank of the row; `None` without a row or without work.
-fn work_rank(row: Option<&Row>, upgrading: &UpgradingDomains) -> Option<u8>
-    ensures value { result ≡ option_and_then (λ r. work_rank_with upgrading.now r.homes r.domains r.losses) (option_copied row.entry) }
-    ensures few { IfSome result (λ k. k ≤ 4) }
-{
-    row?.work_rank(upgrading)
-}
-
-/// The fragments that the planes have of a row: those of the mask of the missing ones, if it has work.
-fn planed(row: Option<&Row>) -> LossMask
-    ensures { (f : ℕ) → bits_set result.bits f ≡ is_planed f (option_copied row.entry) }
-{
-    match row {
-        Some(row) => row.planed(),
-        None => LossMask::from_bits(0),
-    }
-}
-
-/// Sets what the planes have of a stripe. Before, they had these fragments of it.
-fn set_planes(
-    planes: &mut Planes,
-    stripe: StripeNo,
-    before: LossMask,
-    after: LossMask,
-    has_work: bool,
-)
-    requires { (f : ℕ) → f < 16 → at_fragment planes.old.missing f stripe ≡ bits_set before.bits f }
-    ensures missing { (f : ℕ) (s : AnyStripe) → f < 16 → at_fragment planes.new.missing f s ≡ (if same_stripe stripe s then bits_set after.bits f else at_fragment planes.old.missing f s) }
-    ensures work { has planes.new.work ≡ λ s. if same_stripe stripe s then has_work else has planes.old.work s }
-    ensures narrow { planes.new.narrow ≡ planes.old.narrow }
-{
-    planes
-        .missing
-        .put(stripe, masks::put(after, before, false), true);
-    planes
-        .missing
-        .put(stripe, masks::put(before, after, false), false);
-    planes.work.set(stripe, has_work);
-}
-
-/// Whether the code is `Narrow`.
-fn is_narrow(code: Code) -> bool
-    ensures { (if result then Narrow else Wide) ≡ code }
-{
-    match code {
-        Code::Wide => false,
-        Code::Narrow => true,
-    }
 }

@@ -23,7 +23,7 @@ use Rattle.lrc_rules.specs.States.{State, code_of, seats_of, taken_seats, is_eli
 use Rattle.lrc_terms.specs.Modes.{is_active}
 use Rattle.lrc_rules.specs.Placement.{clashes, is_beside, bars, fits, chosen, with_home}
 use Rattle.lrc_rules.specs.Choices.{AreChosen, IsFirstWithout}
-use Rattle.lrc_rules.specs.Urgency.{is_grantable, all_fragments, is_repaired_before, next_of}
+use Rattle.lrc_rules.specs.Urgency.{is_grantable, stripe_fragments, is_repaired_before, next_of}
 use Rattle.lrc_rules.specs.Steps.{with_upgrading, is_lost_to, would_lose}
 use Rattle.lrc_rules.specs.Alike.{HaveSame, AreAlike}
 use Rattle.lrc_rules.specs.Goodness.{AreSeated}
@@ -86,7 +86,7 @@ module _ (nodes : List NodeInfo) (w v : State) (alike : AreAlike w v) (seated : 
   abbrev fragments_by : (StripeNo → Code) → StripeNo → List StripeFragment
   fragments_by code s = map (λ f. (s, f)) (fragments (code s))
 
-  same-fragments : HaveSame (all_fragments w) (all_fragments v)
+  same-fragments : HaveSame (stripe_fragments w) (stripe_fragments v)
   same-fragments =
       subst (λ (code : StripeNo → Code). HaveSame (flat_map (fragments_by (code_of w)) w.stripes) (flat_map (fragments_by code) v.stripes)) (alike-code w v alike)
       (same-flat_map (fragments_by (code_of w)) w.stripes v.stripes alike.stripes)
@@ -97,9 +97,9 @@ module _ (nodes : List NodeInfo) (w v : State) (alike : AreAlike w v) (seated : 
       let rank' = rank nodes v in
       let ranks = alike-rank nodes w v alike seated seated' in
       let grantable = same-grantable in
-      (λ i. least (is_repaired_before (ranks i)) (filter (grantable i) (all_fragments w)))
-      ∙ same-least (is_repaired_before rank') (fragment-order rank') (fragment-ties rank') (filter (is_grantable nodes v) (all_fragments w)) (filter (is_grantable nodes v) (all_fragments v))
-      (same-filter (is_grantable nodes v) (all_fragments w) (all_fragments v) same-fragments)
+      (λ i. least (is_repaired_before (ranks i)) (filter (grantable i) (stripe_fragments w)))
+      ∙ same-least (is_repaired_before rank') (fragment-order rank') (fragment-ties rank') (filter (is_grantable nodes v) (stripe_fragments w)) (filter (is_grantable nodes v) (stripe_fragments v))
+      (same-filter (is_grantable nodes v) (stripe_fragments w) (stripe_fragments v) same-fragments)
 
   -- ---- upgrades
 

@@ -10,7 +10,7 @@ use Rattle.lrc_code.specs.declared.numbers.StripeNo.{StripeNo}
 use Rattle.lrc_code.specs.declared.numbers.NodeNo.{NodeNo}
 use Rattle.lrc_code.specs.declared.numbers.Fragment.{Fragment}
 use Rattle.lrc_code.specs.Numbers.{same_stripe, same_node}
-use Rattle.lrc_code.specs.Codes.{fragments, others}
+use Rattle.lrc_code.specs.Codes.{fragments, others, all_fragments}
 use Rattle.lrc_code.specs.Losses.{is_recoverable, is_local}
 use Rattle.lrc_code.specs.Order.{in_order}
 use Rattle.lrc_code.proofs.NumbersLemmas.{equal_stripes}
@@ -189,7 +189,7 @@ module _ (nodes : List NodeInfo) (w v : State) (alike : AreAlike w v) (seated : 
   pub alike-homes_shown : (s : StripeNo) → homes_shown w s ≡ homes_shown v s
   alike-homes_shown s =
       let there = alike-there w v alike in
-      let homes = alike-homes in λ i. if there i s then Some (map (λ (f : Fragment). homes i s f.value) (fragments Wide)) else None
+      let homes = alike-homes in λ i. if there i s then Some (map (λ (f : Fragment). homes i s f.value) all_fragments) else None
 
   pub alike-level_shown : (s : StripeNo) → level_shown nodes w s ≡ level_shown nodes v s
   alike-level_shown s =

@@ -103,3 +103,10 @@ module _ (nodes : List NodeInfo) (past : List Entry) (st : State) (session : Ses
   pub tell-not_needed : SaysRefused refusal.NotNeeded → (lease_outcome nodes past st session s f).0 ≡ Refused refusal.NotNeeded
   unfolding lease_outcome
   tell-not_needed (there, none, unneeded) = rw (there, none, unneeded) refl
+
+  beyond : is_safe nodes st s ≡ false → kind nodes st s f ≡ Global → (not (is_safe nodes st s) && is_global (kind nodes st s f)) ≡ true
+  beyond unsafe from = ap₂ (λ (b : Bool) (k : Kind). not b && is_global k) unsafe from
+
+  pub tell-unrecoverable : SaysRefused refusal.Unrecoverable → (lease_outcome nodes past st session s f).0 ≡ Refused refusal.Unrecoverable
+  unfolding lease_outcome
+  tell-unrecoverable (there, none, needed, from, unsafe) = rw (there, none, needed, beyond unsafe from) refl

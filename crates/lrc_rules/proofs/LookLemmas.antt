@@ -7,12 +7,11 @@ use Rattle.std.proofs.lemmas.List.{ext_get_or, get_or-map}
 use Rattle.std.proofs.lemmas.Nat.Bits.{bit_at_above, bit_at-lt, same_from_bits}
 use Rattle.std.proofs.lemmas.Option.{same_Some, some_pair_parts}
 use Rattle.lrc_code.specs.declared.codes.Code.{Code}
-use Rattle.lrc_code.specs.declared.codes.Code.TheVariants.{Wide}
 use Rattle.lrc_code.specs.declared.losses.LossMask.{LossMask}
 use Rattle.lrc_code.specs.declared.numbers.StripeNo.{StripeNo}
 use Rattle.lrc_code.specs.declared.numbers.NodeNo.{NodeNo}
 use Rattle.lrc_code.specs.declared.numbers.Fragment.{Fragment}
-use Rattle.lrc_code.specs.Codes.{fragments, fragment_count}
+use Rattle.lrc_code.specs.Codes.{fragments, fragment_count, all_fragments}
 use Rattle.lrc_code.specs.Losses.{FragmentSet, bits_of, bits_set}
 use Rattle.lrc_code.proofs.BitsLemmas.{bits_set-bits_of, bits_of-below}
 use Rattle.lrc_topology.specs.declared.NodeInfo.{NodeInfo}
@@ -91,7 +90,7 @@ module _ (nodes : List NodeInfo) (st : State) (s : StripeNo) where
 
 module _ (st : State) (s : StripeNo) where
   abbrev all_homes : List (Option Seat)
-  all_homes = map (λ (f : Fragment). homes_of st.homes s f.value) (fragments Wide)
+  all_homes = map (λ (f : Fragment). homes_of st.homes s f.value) all_fragments
 
   -- the seat of a fragment is at the position of its number
   abbrev IsAt : List (Option Seat) → Fragment → Type 0
@@ -99,7 +98,7 @@ module _ (st : State) (s : StripeNo) where
 
   home-at : (f : Fragment) → IsAt all_homes f
   home-at f =
-      get_or-map (λ (g : Fragment). homes_of st.homes s g.value) (fragments Wide) f.value f None f.in_range
+      get_or-map (λ (g : Fragment). homes_of st.homes s g.value) all_fragments f.value f None f.in_range
       ∙ ap (homes_of st.homes s) (fragment-number f.value f f.in_range)
 
   same-homes : (seats : List (Option Seat)) → length seats ≡ 16 → ((f : Fragment) → IsAt seats f) → all_homes ≡ seats

@@ -27,7 +27,7 @@ use Rattle.lrc_rules.specs.States.{State, has_stripe, lease_of, taken_seats, ran
 use Rattle.lrc_rules.specs.Placement.{chosen_node, chosen}
 use Rattle.lrc_rules.specs.Choices.{IsFitting}
 use Rattle.lrc_rules.specs.Repairs.{needs, is_safe, kind, is_global, is_beyond_repair}
-use Rattle.lrc_rules.specs.Urgency.{is_grantable, all_fragments, is_repaired_before, next_of}
+use Rattle.lrc_rules.specs.Urgency.{is_grantable, stripe_fragments, is_repaired_before, next_of}
 use Rattle.lrc_rules.specs.Granting.{IsGrantable, ComesFirst, IsRepairedBefore, IsMostUrgent}
 use Rattle.lrc_rules.specs.Outcomes.{Outcome}
 use Rattle.lrc_rules.specs.Leases.{new_lease, lease_outcome, next_answer, next_outcome}
@@ -91,11 +91,11 @@ module _ (nodes : List NodeInfo) (st : State) (s : StripeNo) (f : Fragment) wher
 
 module _ (nodes : List NodeInfo) (st : State) where
   abbrev candidates : List StripeFragment
-  candidates = filter (is_grantable nodes st) (all_fragments st)
+  candidates = filter (is_grantable nodes st) (stripe_fragments st)
 
   pub grantable-words : (p : StripeFragment) → Contains candidates p → IsGrantable nodes st p
   grantable-words p here =
-      let m = filter-member (is_grantable nodes st) (all_fragments st) p here in
+      let m = filter-member (is_grantable nodes st) (stripe_fragments st) p here in
       let free = and_parts (is_none (lease_of st p.0 p.1)) _ m.1 in
       let need = and_parts (needs nodes st p.0 p.1) _ free.1 in
       let rest = and_parts (not (is_beyond_repair nodes st p.0 p.1)) _ need.1 in
@@ -118,7 +118,7 @@ module _ (nodes : List NodeInfo) (st : State) where
   words-grantable : (p : StripeFragment) → IsGrantable nodes st p → Contains candidates p
   words-grantable p so =
       let seat = seat-by nodes st p.0 p.1 so.node so.fitting (chosen nodes st p.0 p.1) refl in
-      member-filter (is_grantable nodes st) (all_fragments st) p (fragments-from st st.stripes p (needs-own nodes st p.0 p.1 so.owed.needed) (stripe-there st p.0 so.owed.there))
+      member-filter (is_grantable nodes st) (stripe_fragments st) p (fragments-from st st.stripes p (needs-own nodes st p.0 p.1 so.owed.needed) (stripe-there st p.0 so.owed.there))
       (and_from (is_none (lease_of st p.0 p.1)) _ (ap (λ (o : Option LeaseRecord). is_none o) so.owed.none)
       (and_from (needs nodes st p.0 p.1) _ so.owed.needed
       (and_from (not (is_beyond_repair nodes st p.0 p.1)) _ (from-suffices (is_safe nodes st p.0) (kind nodes st p.0 p.1) so.owed.suffices)

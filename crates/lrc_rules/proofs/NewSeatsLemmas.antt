@@ -9,7 +9,7 @@ use Rattle.lrc_code.specs.declared.numbers.StripeNo.{StripeNo}
 use Rattle.lrc_code.specs.declared.numbers.NodeNo.{NodeNo}
 use Rattle.lrc_code.specs.declared.numbers.SessionNo.{SessionNo}
 use Rattle.lrc_code.specs.declared.numbers.Fragment.{Fragment}
-use Rattle.lrc_code.specs.Codes.{fragments}
+use Rattle.lrc_code.specs.Codes.{fragments, all_fragments}
 use Rattle.lrc_topology.specs.declared.NodeInfo.{NodeInfo}
 use Rattle.lrc_topology.specs.declared.seat.Seat.{Seat}
 use Rattle.lrc_topology.specs.declared.seat.Held.{Held}
@@ -170,7 +170,7 @@ module _ (nodes : List NodeInfo) (known : AreNodes nodes) (past : List Entry) (s
       → Comes nodes st seat
   changed-comes (Place s) (Placed seats) told =
       placed-comes nodes st Wide s seats
-      (placed-may nodes known s (fragments Wide) seats (with_stripe st Wide s) (place-told nodes st Wide s seats told).chosen_are)
+      (placed-may nodes known s all_fragments seats (with_stripe st Wide s) (place-told nodes st Wide s seats told).chosen_are)
   changed-comes (Place6 s) (Placed6 seats) told =
       placed-comes nodes st Narrow s seats
       (placed-may nodes known s (fragments Narrow) seats (with_stripe st Narrow s) (place-told nodes st Narrow s seats told).chosen_are)

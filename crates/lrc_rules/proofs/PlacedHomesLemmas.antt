@@ -13,7 +13,7 @@ use Rattle.lrc_code.specs.declared.codes.Code.TheVariants.{Wide, Narrow}
 use Rattle.lrc_code.specs.declared.numbers.StripeNo.{StripeNo}
 use Rattle.lrc_code.specs.declared.numbers.Fragment.{Fragment}
 use Rattle.lrc_code.specs.Numbers.{same_stripe}
-use Rattle.lrc_code.specs.Codes.{fragments}
+use Rattle.lrc_code.specs.Codes.{fragments, all_fragments}
 use Rattle.lrc_code.proofs.NumbersLemmas.{equal_stripes, equal_fragments}
 use Rattle.lrc_topology.specs.declared.NodeInfo.{NodeInfo}
 use Rattle.lrc_topology.specs.declared.seat.Seat.{Seat}
@@ -108,7 +108,7 @@ fragments-numbered Narrow = (refl, (refl, (refl, (refl, (refl, (refl, (refl, (re
 -- ---- what a read returns
 
 abbrev seats_by : List Held → StripeNo → List (Option Seat)
-seats_by homes s = map (λ (f : Fragment). homes_of homes s f.value) (fragments Wide)
+seats_by homes s = map (λ (f : Fragment). homes_of homes s f.value) all_fragments
 
 abbrev shown : Bool → List (Option Seat) → Option (List (Option Seat))
 shown there seats = if there then Some seats else None
@@ -127,15 +127,15 @@ past-ten (f ∷ fs) e =
 
 -- the homes that are added for a stripe are its seats
 all-added : (code : Code) (s : StripeNo) (seats : List Seat) → length seats ≡ length (fragments code) → seats_by (held_at s (fragments code) seats) s ≡ shown_seats code seats
-all-added Wide s seats all = added-homes s (fragments Wide) seats (fragments-distinct Wide) all
+all-added Wide s seats all = added-homes s all_fragments seats (fragments-distinct Wide) all
 all-added Narrow s seats all =
     let added = held_at s (fragments Narrow) seats in
     let none : (f : Fragment) → 10 ≤ f.value → homes_of added s f.value ≡ None = λ f past.
     numbered-homes s 0 (fragments Narrow) seats f.value f.value (fragments-numbered Narrow) all (sym (zero-add f.value)) ∙ slice_get_past seats f.value (omega (arith, all, past)) in
-    map-append (λ (f : Fragment). homes_of added s f.value) (fragments Narrow) (drop 10 (fragments Wide))
+    map-append (λ (f : Fragment). homes_of added s f.value) (fragments Narrow) (drop 10 all_fragments)
     ∙ ap₂ (λ (xs ys : List (Option Seat)). xs ++ ys) (added-homes s (fragments Narrow) seats (fragments-distinct Narrow) all)
-    (map-agree (λ (f : Fragment). homes_of added s f.value) (λ f. None) (drop 10 (fragments Wide))
-    (All-weaker (λ (f : Fragment). 10 ≤ f.value) (λ (f : Fragment). homes_of added s f.value ≡ None) none (drop 10 (fragments Wide)) (past-ten (drop 10 (fragments Wide)) refl)))
+    (map-agree (λ (f : Fragment). homes_of added s f.value) (λ f. None) (drop 10 all_fragments)
+    (All-weaker (λ (f : Fragment). 10 ≤ f.value) (λ (f : Fragment). homes_of added s f.value ≡ None) none (drop 10 all_fragments) (past-ten (drop 10 all_fragments) refl)))
 
 module _ (nodes : List NodeInfo) (st : State) (code : Code) (s : StripeNo) where
   placed-homes : (seats : List Seat) → AreSeated nodes st → has_stripe st s ≡ false → length seats ≡ length (fragments code)
@@ -145,10 +145,10 @@ module _ (nodes : List NodeInfo) (st : State) (code : Code) (s : StripeNo) where
       (Contains-push st.stripes s) (eq-eqb s.value s.value refl) in
       let added = held_at s (fragments code) seats in
       let same : seats_by (st.homes ++ added) s ≡ seats_by added s = map-agree (λ (f : Fragment). homes_of (st.homes ++ added) s f.value)
-      (λ (f : Fragment). homes_of added s f.value) (fragments Wide)
-      (λ i d within. ap seat_in (homes-append st.homes added s (get_or (fragments Wide) i d).value
-      ∙ after-none (home_of st.homes s (get_or (fragments Wide) i d).value) (home_of added s (get_or (fragments Wide) i d).value)
-      (no_home nodes st s (get_or (fragments Wide) i d).value seated absent))) in
+      (λ (f : Fragment). homes_of added s f.value) all_fragments
+      (λ i d within. ap seat_in (homes-append st.homes added s (get_or all_fragments i d).value
+      ∙ after-none (home_of st.homes s (get_or all_fragments i d).value) (home_of added s (get_or all_fragments i d).value)
+      (no_home nodes st s (get_or all_fragments i d).value seated absent))) in
       ap (λ (b : Bool). shown b (seats_by (st.homes ++ added) s)) there ∙ ap Some
       (same ∙ all-added code s seats all)
 
@@ -162,10 +162,10 @@ module _ (nodes : List NodeInfo) (st : State) (code : Code) (s : StripeNo) where
       list_any-append (same_stripe r) st.stripes (s ∷ [])
       ∙ rw (ne_eqb r.value s.value (λ same. other (equal_stripes r s same))) (or_none (has_stripe st r)) in
       let same : seats_by (st.homes ++ added) r ≡ seats_by st.homes r = map-agree (λ (f : Fragment). homes_of (st.homes ++ added) r f.value)
-      (λ (f : Fragment). homes_of st.homes r f.value) (fragments Wide)
-      (λ i d within. ap seat_in (homes-append st.homes added r (get_or (fragments Wide) i d).value
-      ∙ before-none (home_of st.homes r (get_or (fragments Wide) i d).value) (home_of added r (get_or (fragments Wide) i d).value)
-      (none-added s r (fragments code) seats (get_or (fragments Wide) i d).value other))) in
+      (λ (f : Fragment). homes_of st.homes r f.value) all_fragments
+      (λ i d within. ap seat_in (homes-append st.homes added r (get_or all_fragments i d).value
+      ∙ before-none (home_of st.homes r (get_or all_fragments i d).value) (home_of added r (get_or all_fragments i d).value)
+      (none-added s r (fragments code) seats (get_or all_fragments i d).value other))) in
       ap (λ (b : Bool). shown b (seats_by (st.homes ++ added) r)) there ∙ ap (shown (has_stripe st r)) same
     where
       or_none : (b : Bool) → (b || false) ≡ b

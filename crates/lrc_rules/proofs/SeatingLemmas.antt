@@ -13,7 +13,7 @@ use Rattle.lrc_code.specs.declared.codes.Code.{Code}
 use Rattle.lrc_code.specs.declared.codes.Code.TheVariants.{Wide, Narrow}
 use Rattle.lrc_code.specs.declared.numbers.StripeNo.{StripeNo}
 use Rattle.lrc_code.specs.declared.numbers.Fragment.{Fragment}
-use Rattle.lrc_code.specs.Codes.{fragments, has_fragment}
+use Rattle.lrc_code.specs.Codes.{fragments, has_fragment, all_fragments}
 use Rattle.lrc_code.proofs.CodesLemmas.{share_class-turn}
 use Rattle.lrc_topology.specs.declared.NodeInfo.{NodeInfo}
 use Rattle.lrc_topology.specs.declared.seat.Seat.{Seat}
@@ -249,5 +249,5 @@ distinct-from (f ∷ fs) e =
 -- the fragments of a stripe are distinct
 pub fragments-distinct : (code : Code) → AllPairs (λ f g. f ≢ g) (fragments code)
 unfolding are_distinct
-fragments-distinct Wide = distinct-from (fragments Wide) refl
+fragments-distinct Wide = distinct-from all_fragments refl
 fragments-distinct Narrow = distinct-from (fragments Narrow) refl

@@ -12,7 +12,7 @@ use Rattle.lrc_code.specs.declared.numbers.NodeNo.{NodeNo}
 use Rattle.lrc_code.specs.declared.numbers.SessionNo.{SessionNo}
 use Rattle.lrc_code.specs.declared.numbers.Fragment.{Fragment}
 use Rattle.lrc_code.specs.Numbers.{same_stripe}
-use Rattle.lrc_code.specs.Codes.{fragments}
+use Rattle.lrc_code.specs.Codes.{fragments, all_fragments}
 use Rattle.lrc_code.proofs.NumbersLemmas.{equal_stripes, equal_nodes}
 use Rattle.lrc_topology.specs.declared.NodeInfo.{NodeInfo}
 use Rattle.lrc_topology.specs.declared.seat.Seat.{Seat}
@@ -84,7 +84,7 @@ module _ (st : State) (s : StripeNo) (f : Fragment) (seat : Seat) (own : homes_o
       (λ same. other (ap (λ (x : Seat). x.node) (sym home.2) ∙ sym (equal_nodes n home.0.seat.node same))))
 
   changed-home : (nodes : List NodeInfo) (c : Command) (r : Reply) → ¬ (CanMove s f seat c) → Stays (changed_by st c r)
-  changed-home nodes (Place r) (Placed seats) other = grown-home (held_at r (fragments Wide) seats)
+  changed-home nodes (Place r) (Placed seats) other = grown-home (held_at r all_fragments seats)
   changed-home nodes (Place6 r) (Placed6 seats) other = grown-home (held_at r (fragments Narrow) seats)
   changed-home nodes (Drop r) Dropped other = filtered (λ (h : Held). is_other r h.stripe) (other-stripe r other)
   changed-home nodes (Done r g e) Ended other = done-homes st r s g f (λ stripe fragment. other (stripe, fragment)) (lease_of st r g) ∙ own

@@ -5,7 +5,7 @@ use Rattle.lrc_code.specs.declared.codes.Code.{Code}
 use Rattle.lrc_code.specs.declared.codes.Code.TheVariants.{Wide, Narrow}
 use Rattle.lrc_code.specs.declared.numbers.StripeNo.{StripeNo}
 use Rattle.lrc_code.specs.declared.numbers.Fragment.{Fragment}
-use Rattle.lrc_code.specs.Codes.{share_class, is_in_group, others, other_count}
+use Rattle.lrc_code.specs.Codes.{share_class, is_in_group, others, group_size}
 use Rattle.lrc_code.specs.Losses.{is_recoverable, is_local}
 use Rattle.lrc_topology.specs.declared.NodeInfo.{NodeInfo}
 use Rattle.lrc_terms.specs.Levels.{homes_of, needs_in}
@@ -61,6 +61,6 @@ pub record IsFromItsGroup (nodes : List NodeInfo) (st : State) (s : StripeNo) (f
   pub away : ¬ (IsAtHome nodes st s f)
   pub group : IsTrue (is_in_group (code_of st s) f)
   pub present : (g : Fragment) → IsTrue (share_class (code_of st s) f g) → g ≢ f → IsFalse (missing nodes st s g.value)
-  pub count : length sources ≡ other_count (code_of st s)
+  pub count : length sources ≡ group_size (code_of st s)
   pub rising : AllPairs (λ g h. g.value < h.value) sources
   pub members : (g : Fragment) → Contains sources g ↔ (IsTrue (share_class (code_of st s) f g) × (g ≢ f))

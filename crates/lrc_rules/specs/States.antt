@@ -10,7 +10,7 @@ use Rattle.lrc_code.specs.declared.numbers.NodeNo.{NodeNo}
 use Rattle.lrc_code.specs.declared.numbers.UpgradeNo.{UpgradeNo}
 use Rattle.lrc_code.specs.declared.numbers.Fragment.{Fragment}
 use Rattle.lrc_code.specs.Numbers.{same_stripe, same_fragment, same_node, same_upgrade}
-use Rattle.lrc_code.specs.Codes.{fragments}
+use Rattle.lrc_code.specs.Codes.{fragments, all_fragments}
 use Rattle.lrc_code.specs.Losses.{FragmentSet}
 use Rattle.lrc_topology.specs.declared.NodeInfo.{NodeInfo}
 use Rattle.lrc_topology.specs.declared.seat.Seat.{Seat}
@@ -149,7 +149,7 @@ level nodes st s = level_by (code_of st s) (homeless st s) (missing nodes st s)
 
 -- the homes of a stripe by the sixteen fragment numbers, in ascending order; no seat for a fragment without a home
 abbrev pub homes_shown : State → StripeNo → Option (List (Option Seat))
-homes_shown st s = if has_stripe st s then Some (map (λ f. homes_of st.homes s f.value) (fragments Wide)) else None
+homes_shown st s = if has_stripe st s then Some (map (λ f. homes_of st.homes s f.value) all_fragments) else None
 
 -- the code of a stripe
 abbrev pub code_shown : State → StripeNo → Option Code

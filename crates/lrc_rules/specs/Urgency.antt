@@ -39,8 +39,8 @@ is_grantable nodes st p =
     is_none (lease_of st p.0 p.1) && (needs nodes st p.0 p.1 && (not (is_beyond_repair nodes st p.0 p.1) && is_some (chosen nodes st p.0 p.1)))
 
 -- every fragment of every stripe
-abbrev pub all_fragments : State → List StripeFragment
-all_fragments st = flat_map (λ s. map (λ f. (s, f)) (fragments (code_of st s))) st.stripes
+abbrev pub stripe_fragments : State → List StripeFragment
+stripe_fragments st = flat_map (λ s. map (λ f. (s, f)) (fragments (code_of st s))) st.stripes
 
 -- the order of repair of fragments: that of their stripes, and within a stripe by fragment number
 abbrev pub is_repaired_before : (StripeNo → ℕ) → StripeFragment → StripeFragment → Bool
@@ -48,4 +48,4 @@ is_repaired_before rank p q = comes_first rank p.0 q.0 || (same_stripe p.0 q.0 &
 
 -- the most urgent fragment whose lease would be granted
 unfoldable pub next_of : List NodeInfo → State → Option StripeFragment
-next_of nodes st = least (is_repaired_before (rank nodes st)) (filter (is_grantable nodes st) (all_fragments st))
+next_of nodes st = least (is_repaired_before (rank nodes st)) (filter (is_grantable nodes st) (stripe_fragments st))

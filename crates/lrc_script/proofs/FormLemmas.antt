@@ -1,7 +1,7 @@
 -- The form and the numbers of a command's line.
 use Rattle.std.proofs.Common.{◌≡◌, ◌≢◌, ℕ, ◌+◌, ◌*◌, ◌^◌, ◌<◌, ◌≤◌, lit<, lit≤, Bool, true, false, not, ◌&&◌, nat_eq, nat_lt, if◌then◌else◌, Some, List, [], ◌∷◌, ◌++◌, length, map, get_or, decimal, refl, ap, ◌∙◌, length-append, arith}
 use borrow.Author.Tests.{ltb-true}
-use Rattle.std.specs.List.{All, list_all, join_with_byte}
+use Rattle.std.specs.List.{All, AllZip, list_all, join_with_byte}
 use Rattle.std.proofs.lemmas.Bool.Decides.{nat_tests}
 use Rattle.std.proofs.lemmas.Fmt.{decimal_nonempty, length-decimal-le}
 use Rattle.std.proofs.lemmas.List.{get_or_append_left}
@@ -10,7 +10,7 @@ use Rattle.lrc_rules.specs.declared.command.Command.{Command}
 use Rattle.lrc_rules.specs.declared.command.Command.TheVariants.{Place, Place6, Drop, Lease, Next, Done, Abandon, Revoke, Fail, Down, Up, Drain, Undrain, Retire, Join, Upgrade, Upgraded, Tick}
 use Rattle.lrc_code.specs.declared.numbers.StripeNo.{StripeNo}
 use Rattle.lrc_code.specs.declared.numbers.Fragment.{Fragment}
-use Rattle.lrc_script.specs.Scripts.{Form, stripe_forms, node_forms, form_of, numbers_text, is_passed_over, command_line, IsInRange}
+use Rattle.lrc_script.specs.Scripts.{Form, stripe_forms, node_forms, form_of, numbers_text, is_passed_over, command_line, IsInRange, line_with, HasForm}
 use Rattle.lrc_script.specs.Cuts.{AreBelow}
 
 abbrev pub form_with : List ℕ → List ℕ → Form
@@ -22,10 +22,6 @@ all_forms = stripe_forms ++ node_forms
 
 abbrev pub form_at : ℕ → Form
 form_at i = get_or all_forms i (form_with [] [])
-
--- the line of a form with these numbers
-abbrev pub line_with : Form → List ℕ → List ℕ
-line_with form ns = join_with_byte 32 (form.word ∷ map decimal ns)
 
 -- the index of a command's form, and its numbers
 abbrev pub index_of : Command → ℕ
@@ -109,6 +105,23 @@ line_of (Retire n) = record { within = lit< tt; line = refl; found = refl; below
 line_of (Join n) = record { within = lit< tt; line = refl; found = refl; below = below_node n.value }
 line_of (Upgrade u) = record { within = lit< tt; line = refl; found = refl; below = below_domain u.value }
 line_of (Upgraded u) = record { within = lit< tt; line = refl; found = refl; below = below_domain u.value }
+
+all_below : (ns bounds : List ℕ) → AreBelow ns bounds → AllZip (λ n bound. n < bound) ns bounds
+all_below [] [] below = tt
+all_below [] (bound ∷ bounds) below = below
+all_below (n ∷ ns) [] below = below
+all_below (n ∷ ns) (bound ∷ bounds) below = (below.0.0, all_below ns bounds below.1)
+
+pub line_has_form : (command : Command) → HasForm command
+line_has_form command =
+    let is = line_of command in
+    record {
+      form = form_at (index_of command);
+      numbers = numbers_of command;
+      found = is.found;
+      line = is.line;
+      below = λ range. all_below (numbers_of command) (form_at (index_of command)).bounds (is.below range);
+    }
 
 -- ---- what all forms have in common
 

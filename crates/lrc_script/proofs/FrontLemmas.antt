@@ -1,5 +1,5 @@
 -- The line of a command at the start of a text.
-use Rattle.std.proofs.Common.{◌≡◌, ◌≢◌, ◌⊎◌, ℕ, Bool, true, false, not, ◌&&◌, ◌||◌, nat_eq, nat_lt, Some, List, [], ◌∷◌, ◌++◌, length, map, get_or, decimal, refl, sym, ap, subst, ◌∙◌, append_assoc, inl, inr, arith}
+use Rattle.std.proofs.Common.{◌≡◌, ◌≢◌, ◌⊎◌, ℕ, Bool, true, false, not, ◌&&◌, ◌||◌, nat_eq, nat_lt, Option, Some, suc, List, [], ◌∷◌, ◌++◌, length, map, get_or, decimal, refl, sym, ap, subst, ◌∙◌, append_assoc, inl, inr, arith}
 use borrow.Author.Tests.{ltb-true, eq-eqb, ne_eqb}
 use Rattle.std.specs.Borrow.{Bor}
 use Rattle.std.specs.List.{All, list_all, join_with_byte}
@@ -8,11 +8,11 @@ use Rattle.std.proofs.lemmas.List.{get_or_append_left}
 use Rattle.std.proofs.lemmas.List.Elements.{All-append}
 use Rattle.std.proofs.lemmas.List.Sums.{AllPass-from_list_all}
 use Rattle.lrc_rules.specs.declared.command.Command.{Command}
-use Rattle.lrc_script.specs.Scripts.{Form, form_of, same_text, numbers_text, command_line, IsInRange}
-use Rattle.lrc_script.specs.Cuts.{AreBelow, HasNoNumbers, HasNoCommand, IsLineRead}
+use Rattle.lrc_script.specs.Scripts.{Form, form_of, same_text, numbers_text, command_line, IsInRange, line_with}
+use Rattle.lrc_script.specs.Cuts.{IsCut, AreBelow, HasNoNumbers, HasNoCommand, IsLineRead}
 use Rattle.lrc_script.proofs.ScriptLemmas.{both, same_text-true}
 use Rattle.lrc_script.proofs.NumbersLemmas.{digits_alone}
-use Rattle.lrc_script.proofs.FormLemmas.{form_with, all_forms, form_at, line_with, index_of, numbers_of, line_of, form_sound, no_end, command_kept}
+use Rattle.lrc_script.proofs.FormLemmas.{form_with, all_forms, form_at, index_of, numbers_of, line_of, form_sound, no_end, command_kept}
 use Rattle.lrc_script.proofs.CauseLemmas.{cause_of-command_line}
 
 -- ---- no end of a line stands in the line of a command
@@ -153,3 +153,16 @@ pub no_line-numbers : (text word : List ℕ) (bound : ℕ) (bounds : List ℕ) �
 no_line-numbers text word bound bounds none [] rest below is = absurd below
 no_line-numbers text word bound bounds none (n ∷ ns) rest below is =
     none (n ∷ ns) rest below (is ∙ append_assoc word (32 ∷ numbers_text (n ∷ ns)) (10 ∷ rest) ∙ sym (append_assoc word (32 ∷ []) (numbers_text (n ∷ ns) ++ 10 ∷ rest)))
+
+-- ---- a text with an end in it
+
+has_end : (first rest : List ℕ) → All (λ b. b ≢ 10) (first ++ 10 ∷ rest) → ⊥
+has_end [] rest none = none 0 0 (omega arith) refl
+has_end (b ∷ first) rest none = has_end first rest (λ k d within. none (suc k) d (omega (arith, within)))
+
+-- a text with an end in it is no command's line
+pub cut_is_no_line : (text first : List ℕ) (found : Option (Bor (List ℕ))) (rest : Bor (List ℕ)) → found ≡ Some rest → IsCut 10 text first found
+    → (command : Command) → IsInRange command → text ≢ command_line command
+cut_is_no_line text first found rest is cut command range line =
+    let parts = subst (IsCut 10 text first) is cut in
+    has_end first rest.now (subst (All (λ b. b ≢ 10)) (sym line ∙ parts.1) (command_no_end command range))

@@ -9,8 +9,8 @@ use Rattle.lrc_script.specs.declared.script.Cause.{Cause}
 use Rattle.lrc_script.specs.declared.script.Cause.TheVariants.{TooLong}
 use Rattle.lrc_script.specs.declared.script.ScriptError.{ScriptError}
 use Rattle.lrc_script.specs.declared.script.ScriptError.TheVariants.{Bad, OutOfMemory}
-use Rattle.lrc_script.specs.Scripts.{lines_of, IsScript, command_line, IsInRange, BadLine, or_else, cause_of, first_bad, IsFirstBad}
-use Rattle.lrc_script.specs.Cuts.{IsCut, IsReadAs, IsAdded, bad_line}
+use Rattle.lrc_script.specs.Scripts.{lines_of, IsScript, command_line, IsInRange, IsReadAs, BadLine, or_else, cause_of, first_bad, IsFirstBad}
+use Rattle.lrc_script.specs.Cuts.{IsCut, IsAdded, bad_line}
 use Rattle.lrc_script.proofs.CutLemmas.{pieces_behind, slice_split-cut}
 
 short_if : (b : Bool) (other : Option Cause) → (if b then Some TooLong else other) ≡ None → b ≡ false

@@ -1,10 +1,12 @@
 -- Internal: no public clause reaches these definitions.
 -- Texts split at a byte or at a parting line, and lines read from them.
-use Rattle.std.specs.Prelude.{◌≡◌, ◌≢◌, ℕ, ◌+◌, ◌^◌, ◌<◌, ◌≤◌, ◌⊎◌, true, false, List, [], ◌∷◌, ◌++◌, length, All, Option, Some, None, option_map, option_to_list}
+use Rattle.std.specs.Prelude.{◌≡◌, ◌≢◌, ℕ, ◌+◌, ◌^◌, ◌<◌, ◌≤◌, ◌⊎◌, List, [], ◌∷◌}
+use Rattle.std.specs.Prelude.{◌++◌, length, All, Option, Some, None, option_map, option_to_list}
 use Rattle.std.specs.Borrow.{Bor}
 use Rattle.lrc_rules.specs.declared.command.Command.{Command}
 use Rattle.lrc_script.specs.declared.script.ScriptError.{ScriptError}
-use Rattle.lrc_script.specs.Scripts.{Form, lines_of, words_of, is_passed_over, numbers_text, command_line, IsInRange, cause_of, BadLine, IsFirstBad}
+use Rattle.lrc_script.specs.Scripts.{Form, lines_of, words_of, numbers_text, command_line, IsInRange, IsReadAs}
+use Rattle.lrc_script.specs.Scripts.{cause_of, BadLine, IsFirstBad}
 use Rattle.lrc_script.specs.Bundles.{parts_of, ended_lines}
 
 -- ---- at a byte
@@ -61,11 +63,6 @@ IsPart text before lines (Some behind) = IsCutAtParting text before lines behind
 IsPart text before lines None = (before ≡ text) × (lines ≤ length text) × (parts_of text ≡ lines_of text ∷ [])
 
 -- ---- lines
-
--- what a line is read as: a command, or nothing where it is passed over
-abbrev pub IsReadAs : List ℕ → Option Command → Type 0
-IsReadAs line (Some command) = (is_passed_over line ≡ false) × IsInRange command × (line ≡ command_line command)
-IsReadAs line None = is_passed_over line ≡ true
 
 -- the commands after the line: those before, and that of the line unless it is passed over
 pub record IsAdded (line : List ℕ) (before after : List Command) : Type 0 where

@@ -1,6 +1,6 @@
 -- Script lines: which command a line is, and why a line is bad.
-use Rattle.std.specs.Prelude.{◌≡◌, ℕ, ◌+◌, ◌<◌, ◌≤◌, Bool, not, ◌&&◌, ◌||◌, if◌then◌else◌, nat_lt, nat_eq, List, [], ◌∷◌, ◌++◌, length, map, filter, find, All, slice_index, codes, decimal, Option, Some, None, option_map, IsSomeAnd, slice_get, take}
-use Rattle.std.specs.List.{slice_split, list_all, starts_with, join_with_byte}
+use Rattle.std.specs.Prelude.{◌≡◌, ℕ, ◌+◌, ◌<◌, ◌≤◌, Bool, true, false, not, ◌&&◌, ◌||◌, if◌then◌else◌, nat_lt, nat_eq, List, [], ◌∷◌, ◌++◌, length, map, filter, find, All, slice_index, codes, decimal, Option, Some, None, option_map, IsSomeAnd, slice_get, take}
+use Rattle.std.specs.List.{AllZip, slice_split, list_all, starts_with, join_with_byte}
 use Rattle.std.specs.Char.{is_ascii_digit}
 use Rattle.std.specs.Str.Parse.{digits_value}
 use Rattle.lrc_rules.specs.declared.command.Command.{Command}
@@ -67,6 +67,11 @@ IsInRange (Upgrade u) = u.value < 256
 IsInRange (Upgraded u) = u.value < 256
 IsInRange Tick = Unit {0}
 
+-- what a line is read as: a command, or nothing where it is passed over
+abbrev pub IsReadAs : List ℕ → Option Command → Type 0
+IsReadAs line (Some command) = (is_passed_over line ≡ false) × IsInRange command × (line ≡ command_line command)
+IsReadAs line None = is_passed_over line ≡ true
+
 -- these are the commands of the lines, in order: no line is too long, and each line that is not passed over is that of a command
 pub record IsScript (lines : List (List ℕ)) (commands : List Command) : Type 0 where
   pub short : All (λ line. length line ≤ 1024) lines
@@ -108,6 +113,18 @@ form_in forms word = find (λ form. same_text word form.word) forms
 -- the form of the command that begins with this word
 abbrev pub form_of : List ℕ → Option Form
 form_of word = form_in (stripe_forms ++ node_forms) word
+
+-- the line of a form with these numbers
+abbrev pub line_with : Form → List ℕ → List ℕ
+line_with form numbers = join_with_byte 32 (form.word ∷ map decimal numbers)
+
+-- a command's line is that of one form, which is found by its word, with a number below each of its bounds
+pub record HasForm (command : Command) : Type 0 where
+  pub form : Form
+  pub numbers : List ℕ
+  pub found : form_of form.word ≡ Some form
+  pub line : command_line command ≡ line_with form numbers
+  pub below : IsInRange command → AllZip (λ number bound. number < bound) numbers form.bounds
 
 -- `0`, or a digit from 1 to 9 and any digits after it
 abbrev pub is_number : List ℕ → Bool

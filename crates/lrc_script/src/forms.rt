@@ -1,9 +1,12 @@
-ghost use Rattle.std.specs.Prelude.{◌≡◌, ◌≤◌, ◌^◌, All, Some, None, map, option_map, IfSome, IfNone};
-ghost use Rattle.lrc_script.specs.Scripts.{form_in, form_of};
+ghost use Rattle.std.specs.Prelude.{◌≡◌, ◌≤◌, ◌^◌, [], ◌∷◌, ◌++◌, All, Some, None, map, option_map, IfSome, IfNone};
+ghost use Rattle.std.specs.Prelude.{decimal, string_bytes, OnOk};
+ghost use Rattle.lrc_script.specs.Scripts.{form_in, form_of, numbers_text, command_line};
 ghost use Rattle.lrc_script.specs.Cuts.{row_form};
 
 use crate::cut::is_word;
-use lrc_code::{FRAGMENTS, STRIPES};
+use lrc_code::{FRAGMENTS, Fragment, STRIPES, StripeNo};
+use lrc_rules::Command;
+use std::alloc::AllocError;
 
 // The bounds of numbers in commands. Each number is below its bound.
 pub(crate) const STRIPE_BOUND: u64 = STRIPES as u64;
@@ -58,4 +61,76 @@ fn bounds_in(forms: &[(&[u8], &'static [u64])], word: &[u8]) -> Option<&'static 
         }
     }
     None
+}
+
+/// Adds the line of a command, without its end.
+///
+/// # Errors
+///
+/// Only for want of memory; then a beginning of the line may have been added.
+pub fn push_command(out: &mut String, command: Command) -> Result<(), AllocError>
+    ensures { OnOk result (string_bytes out.new ≡ string_bytes out.old ++ command_line command) }
+{
+    match command {
+        Command::Place(stripe) => push_number(out, "place ", stripe.value as u32),
+        Command::Place6(stripe) => push_number(out, "place6 ", stripe.value as u32),
+        Command::Drop(stripe) => push_number(out, "drop ", stripe.value as u32),
+        Command::Lease(stripe, fragment) => push_pair(out, "lease ", stripe, fragment),
+        Command::Next => out.push_str("next"),
+        Command::Done(stripe, fragment, epoch) => push_report(
+            out, "done ", stripe, fragment, epoch,
+        ),
+        Command::Abandon(stripe, fragment, epoch) => {
+            push_report(out, "abandon ", stripe, fragment, epoch)
+        }
+        Command::Revoke(stripe, fragment) => push_pair(out, "revoke ", stripe, fragment),
+        Command::Fail(node) => push_number(out, "fail ", node.value as u32),
+        Command::Down(node) => push_number(out, "down ", node.value as u32),
+        Command::Up(node) => push_number(out, "up ", node.value as u32),
+        Command::Drain(node) => push_number(out, "drain ", node.value as u32),
+        Command::Undrain(node) => push_number(out, "undrain ", node.value as u32),
+        Command::Retire(node) => push_number(out, "retire ", node.value as u32),
+        Command::Join(node) => push_number(out, "join ", node.value as u32),
+        Command::Upgrade(domain) => push_number(out, "upgrade ", domain.value as u32),
+        Command::Upgraded(domain) => push_number(out, "upgraded ", domain.value as u32),
+        Command::Tick => out.push_str("tick"),
+    }
+}
+
+/// Adds a word, which ends with a space, and a number.
+fn push_number(out: &mut String, word: &str, number: u32) -> Result<(), AllocError>
+    ensures { OnOk result (string_bytes out.new ≡ string_bytes out.old ++ (word.now ++ decimal number)) }
+{
+    write!(out, "{word}{number}")
+}
+
+/// Adds a word, which ends with a space, and the numbers of a fragment and its stripe.
+fn push_pair(
+    out: &mut String,
+    word: &str,
+    stripe: StripeNo,
+    fragment: Fragment,
+) -> Result<(), AllocError>
+    ensures { OnOk result (string_bytes out.new
+        ≡ string_bytes out.old ++ (word.now ++ numbers_text (stripe.value ∷ fragment.value ∷ []))) }
+{
+    let first = stripe.value;
+    let second = fragment.value;
+    write!(out, "{word}{first} {second}")
+}
+
+/// Adds a word, which ends with a space, the numbers of a fragment and its stripe, and an epoch.
+fn push_report(
+    out: &mut String,
+    word: &str,
+    stripe: StripeNo,
+    fragment: Fragment,
+    epoch: u32,
+) -> Result<(), AllocError>
+    ensures { OnOk result (string_bytes out.new
+        ≡ string_bytes out.old ++ (word.now ++ numbers_text (stripe.value ∷ fragment.value ∷ epoch ∷ []))) }
+{
+    let first = stripe.value;
+    let second = fragment.value;
+    write!(out, "{word}{first} {second} {epoch}")
 }

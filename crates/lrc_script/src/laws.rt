@@ -5,13 +5,19 @@ ghost use Rattle.std.specs.List.{AllZip};
 ghost use Rattle.lrc_rules.specs.declared.command.Command.{Command};
 ghost use Rattle.lrc_script.specs.declared.script.Cause.{Cause};
 ghost use Rattle.lrc_script.specs.Bundles.{topology_of, scripts_of, HoldsLines, IsJoined, StandsIn, put_together, EndsEmpty};
-ghost use Rattle.lrc_script.specs.Scripts.{lines_of, is_passed_over, command_line, IsInRange, IsScript, cause_of, first_bad, IsFirstBadAt};
+ghost use Rattle.lrc_script.specs.Scripts.{lines_of, is_passed_over, command_line, IsInRange, IsScript};
+ghost use Rattle.lrc_script.specs.Scripts.{HasForm, cause_of, first_bad, IsFirstBadAt};
 
 /// A line is good exactly if it is passed over and has at most 1,024 bytes, or is the line of a command in range.
 pub fn good_lines()
     ensures { (line : List ℕ) → (cause_of line ≡ None)
         ↔ (((is_passed_over line ≡ true) × (length line ≤ 1024))
         ⊎ ((command : Command) × IsInRange command × (line ≡ command_line command))) }
+{}
+
+/// The three tables of commands agree: the line of each command, as it is read and written, has the form of its word.
+pub fn lines_have_forms()
+    ensures { (command : Command) → HasForm command }
 {}
 
 /// A line is the first bad line of a script exactly if it is bad and no line before it is.

@@ -10,4 +10,5 @@ pub mod laws;
 mod script;
 
 pub use bundle::{Bundle, BundleError, ScriptText, split_bundle};
-pub use script::{Cause, ScriptError, parse_script};
+pub use forms::push_command;
+pub use script::{Cause, ScriptError, parse_line, parse_script};

@@ -1,8 +1,9 @@
 ghost use Rattle.std.specs.Prelude.{◌≡◌, ◌≢◌, ℕ, ◌+◌, ◌^◌, ◌<◌, ◌∷◌, ◌++◌, List, length, All, None, OnOk, IfOk, IfErr, IfSome, IfNone};
 ghost use Rattle.std.specs.Result.{result_err};
 ghost use Rattle.lrc_rules.specs.declared.command.Command.{Command};
-ghost use Rattle.lrc_script.specs.Scripts.{lines_of, is_passed_over, command_line, IsInRange, IsScript, cause_of, first_bad, IsFirstBad};
-ghost use Rattle.lrc_script.specs.Cuts.{IsReadAs, IsAdded, IsLineRead, IsLineBad, bad_line};
+ghost use Rattle.lrc_script.specs.Scripts.{lines_of, is_passed_over, command_line, IsInRange, IsReadAs};
+ghost use Rattle.lrc_script.specs.Scripts.{IsScript, cause_of, first_bad, IsFirstBad};
+ghost use Rattle.lrc_script.specs.Cuts.{IsAdded, IsLineRead, IsLineBad, bad_line};
 
 use crate::cause::find_cause;
 use crate::cut::cut_line;
@@ -133,7 +134,6 @@ fn push_first_line<'a>(
 
 /// Adds the command of a line, unless the line is passed over. Its errors are those of `push_first_line`.
 fn push_line(commands: &mut Vec<Command>, text: &[u8], line: u64) -> Result<(), ScriptError>
-    requires { All (λ b. b ≢ 10) text.now }
     ensures good { OnOk result (cause_of text.now ≡ None) }
     ensures added { OnOk result (IsAdded text.now commands.old.items commands.new.items) }
     ensures bad { IfErr result (IsFirstBad (bad_line line text.now)) }
@@ -148,10 +148,13 @@ fn push_line(commands: &mut Vec<Command>, text: &[u8], line: u64) -> Result<(), 
     Ok(())
 }
 
-/// Returns the command of a line, or `None` for an empty line or a comment.
+/// Returns the command of a line, which is given without its end, or `None` for an empty line or a comment.
+///
+/// # Errors
+///
+/// The first cause for which the line is bad.
 #[tactic(auto, unfolding(crate::specs::Scripts::cause_of))]
-fn parse_line(line: &[u8]) -> Result<Option<Command>, Cause>
-    requires { All (λ b. b ≢ 10) line.now }
+pub fn parse_line(line: &[u8]) -> Result<Option<Command>, Cause>
     ensures read { IfOk result (IsReadAs line.now) }
     ensures cause { result_err result ≡ cause_of line.now }
 {
@@ -177,6 +180,18 @@ fn is_passed_over(line: &[u8]) -> bool
 /// Returns the command of a line without its end, or `None` if it is not the line of a command.
 #[inline(never)] // so that comments do not pay for its frame
 fn parse_end(line: &[u8]) -> Option<Command>
+    ensures some { IfSome result (λ command. IsInRange command × (line.now ≡ command_line command)) }
+    ensures none { IfNone result ((command : Command) → IsInRange command → line.now ≢ command_line command) }
+{
+    let (whole, behind) = cut_line(line);
+    match behind {
+        Some(_) => None,
+        None => parse_whole(whole),
+    }
+}
+
+/// Returns the command of a line without its end, as `parse_end`, where no byte is an end.
+fn parse_whole(line: &[u8]) -> Option<Command>
     requires { All (λ b. b ≢ 10) line.now }
     ensures some { IfSome result (λ command. IsInRange command × (line.now ≡ command_line command)) }
     ensures none { IfNone result ((command : Command) → IsInRange command → line.now ≢ command_line command) }

@@ -6,7 +6,7 @@ use Rattle.std.proofs.lemmas.List.Elements.{filter_more}
 use Rattle.lrc_code.specs.declared.codes.Code.{Code}
 use Rattle.lrc_code.specs.declared.codes.Code.TheVariants.{Wide, Narrow}
 use Rattle.lrc_code.specs.declared.numbers.Fragment.{Fragment}
-use Rattle.lrc_code.specs.Codes.{fragments, has_fragment}
+use Rattle.lrc_code.specs.Codes.{fragments, has_fragment, all_fragments}
 use Rattle.lrc_code.specs.Losses.{FragmentSet}
 use Rattle.lrc_text.specs.Texts.{spaced_words}
 use Rattle.lrc_show.specs.Shown.{fragments_field, members_of}
@@ -56,47 +56,47 @@ item-more xs i f within is = take_more xs i f within ∙ ap (λ g. take i xs ++ 
 abbrev pub own_members : Code → FragmentSet → List Fragment → List Fragment
 own_members code m fs = filter (λ f. has_fragment code f.value && m f.value) fs
 
-in_items : (items : List Fragment) → items ≡ fragments Wide → (i : ℕ) → i < 16 → i < length items
+in_items : (items : List Fragment) → items ≡ all_fragments → (i : ℕ) → i < 16 → i < length items
 in_items items all i within = subst (λ (fs : List Fragment). i < length fs) (sym all) within
 
-module _ (code : Code) (m : FragmentSet) (items : List Fragment) (all : items ≡ fragments Wide) (i : ℕ) (d : Fragment) (within : i < 16) where
+module _ (code : Code) (m : FragmentSet) (items : List Fragment) (all : items ≡ all_fragments) (i : ℕ) (d : Fragment) (within : i < 16) where
   abbrev f : Fragment
   f = get_or items i d
 
-  member-step : own_members code m (take (i + 1) (fragments Wide)) ≡ own_members code m (take i (fragments Wide)) ++ cond (has_fragment code f.value && m f.value) (f ∷ []) []
+  member-step : own_members code m (take (i + 1) all_fragments) ≡ own_members code m (take i all_fragments) ++ cond (has_fragment code f.value && m f.value) (f ∷ []) []
   member-step =
       ap (λ fs. own_members code m (take (i + 1) fs)) (sym all)
       ∙ filter_more (λ (g : Fragment). has_fragment code g.value && m g.value) items i d (in_items items all i within)
       ∙ ap (λ fs. own_members code m (take i fs) ++ cond (has_fragment code f.value && m f.value) (f ∷ []) []) all
 
-  pub member-more : (has_fragment code f.value && m f.value) ≡ true → own_members code m (take (i + 1) (fragments Wide)) ≡ own_members code m (take i (fragments Wide)) ++ f ∷ []
-  member-more hit = member-step ∙ ap (λ b. own_members code m (take i (fragments Wide)) ++ cond b (f ∷ []) []) hit
+  pub member-more : (has_fragment code f.value && m f.value) ≡ true → own_members code m (take (i + 1) all_fragments) ≡ own_members code m (take i all_fragments) ++ f ∷ []
+  member-more hit = member-step ∙ ap (λ b. own_members code m (take i all_fragments) ++ cond b (f ∷ []) []) hit
 
-  pub member-passed : (has_fragment code f.value && m f.value) ≡ false → own_members code m (take (i + 1) (fragments Wide)) ≡ own_members code m (take i (fragments Wide))
+  pub member-passed : (has_fragment code f.value && m f.value) ≡ false → own_members code m (take (i + 1) all_fragments) ≡ own_members code m (take i all_fragments)
   member-passed miss =
-      member-step ∙ ap (λ b. own_members code m (take i (fragments Wide)) ++ cond b (f ∷ []) []) miss ∙ append-nil (own_members code m (take i (fragments Wide)))
+      member-step ∙ ap (λ b. own_members code m (take i all_fragments) ++ cond b (f ∷ []) []) miss ∙ append-nil (own_members code m (take i all_fragments))
 
-pub members-all : (code : Code) (m : FragmentSet) → own_members code m (fragments Wide) ≡ members_of code m
+pub members-all : (code : Code) (m : FragmentSet) → own_members code m all_fragments ≡ members_of code m
 members-all Wide m = refl
 members-all Narrow m = refl
 
-pub own-all : (code : Code) (m : FragmentSet) → own_members code m (fragments Wide) ≡ own_members code m (fragments code)
+pub own-all : (code : Code) (m : FragmentSet) → own_members code m all_fragments ≡ own_members code m (fragments code)
 own-all Wide m = refl
 own-all Narrow m = refl
 
 -- ---- texts of the fragments so far
 
-module _ (of : Fragment → List ℕ) (items : List Fragment) (all : items ≡ fragments Wide) (i : ℕ) (d : Fragment) (within : i < 16) where
-  pub texts-more : flat_map of (take (i + 1) (fragments Wide)) ≡ flat_map of (take i (fragments Wide)) ++ of (get_or items i d)
+module _ (of : Fragment → List ℕ) (items : List Fragment) (all : items ≡ all_fragments) (i : ℕ) (d : Fragment) (within : i < 16) where
+  pub texts-more : flat_map of (take (i + 1) all_fragments) ≡ flat_map of (take i all_fragments) ++ of (get_or items i d)
   texts-more =
       ap (λ fs. flat_map of (take (i + 1) fs)) (sym all)
       ∙ ap (flat_map of) (take_more items i d (in_items items all i within)) ∙ flat_map-append of (take i items) (get_or items i d ∷ [])
       ∙ ap (λ t. flat_map of (take i items) ++ t) (append-nil (of (get_or items i d))) ∙ ap (λ fs. flat_map of (take i fs) ++ of (get_or items i d)) all
 
-  pub text-added : (start old new : List ℕ) → old ≡ start ++ flat_map of (take i (fragments Wide)) → new ≡ old ++ of (get_or items i d)
-      → new ≡ start ++ flat_map of (take (i + 1) (fragments Wide))
+  pub text-added : (start old new : List ℕ) → old ≡ start ++ flat_map of (take i all_fragments) → new ≡ old ++ of (get_or items i d)
+      → new ≡ start ++ flat_map of (take (i + 1) all_fragments)
   text-added start old new so_far next =
-      next ∙ ap (λ t. t ++ of (get_or items i d)) so_far ∙ append_assoc start (flat_map of (take i (fragments Wide))) (of (get_or items i d))
+      next ∙ ap (λ t. t ++ of (get_or items i d)) so_far ∙ append_assoc start (flat_map of (take i all_fragments)) (of (get_or items i d))
       ∙ ap (λ t. start ++ t) (sym texts-more)
 
 -- ---- texts of the elements that pass a test

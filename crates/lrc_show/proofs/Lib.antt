@@ -8,3 +8,6 @@ pub mod RowLemmas
 pub mod WorkLemmas
 pub mod ForecastLemmas
 pub mod ReadsLemmas
+pub mod FragmentLemmas
+pub mod DomainLemmas
+pub mod HealthLemmas

@@ -8,12 +8,12 @@ use Rattle.lrc_code.specs.declared.codes.Code.{Code}
 use Rattle.lrc_code.specs.declared.codes.Code.TheVariants.{Wide, Narrow}
 use Rattle.lrc_code.specs.declared.numbers.StripeNo.{StripeNo}
 use Rattle.lrc_code.specs.declared.numbers.Fragment.{Fragment}
-use Rattle.lrc_code.specs.Codes.{fragment_count, has_fragment, fragments, is_in_group, others, other_count}
+use Rattle.lrc_code.specs.Codes.{fragment_count, has_fragment, fragments, is_in_group, others, data_count, group_size}
 use Rattle.lrc_code.specs.Losses.{FragmentSet, size_of, is_local}
 use Rattle.lrc_code.proofs.LossesLemmas.{by_test}
 use Rattle.lrc_code.proofs.SourcesLemmas.{count_others, is_other}
 use Rattle.lrc_field.specs.Recipes.{IsRecipe, read_by}
-use Rattle.lrc_field.specs.Stripes.{data_count, outside, Determines}
+use Rattle.lrc_field.specs.Stripes.{outside, Determines}
 use Rattle.lrc_field.proofs.FirstRecipeLemmas.{recipe_reads, read_determine}
 use Rattle.lrc_field.proofs.WhichLemmas.{which_determined}
 use Rattle.lrc_topology.specs.declared.NodeInfo.{NodeInfo}
@@ -28,7 +28,7 @@ reads-local Wide safe sources = refl
 reads-local Narrow safe sources = refl
 
 -- a member of a local group has as many others as the code says
-others-counted : (code : Code) (f : Fragment) → is_in_group code f ≡ true → length (others code f) ≡ other_count code
+others-counted : (code : Code) (f : Fragment) → is_in_group code f ≡ true → length (others code f) ≡ group_size code
 others-counted code f grouped = length-filter (is_other code f) (fragments code) ∙ count_others code f grouped
 
 away-by : (online : Seat → Bool) (b : Bool) (o : Option Seat) → (b && option_map_or (λ seat. not (online seat)) o true) ≡ true → option_map_or online o false ≡ false
@@ -65,7 +65,7 @@ module _ (nodes : List NodeInfo) (st : State) (s : StripeNo) (f : Fragment) wher
   away : gone f.value ≡ true → is_at_home nodes st s f ≡ false
   away lost = away-by online (has_fragment code f.value) (homes_of st.homes s f.value) lost
 
-  told_local : gone f.value ≡ true → is_local code gone f ≡ true → told ≡ Some (other_count code)
+  told_local : gone f.value ≡ true → is_local code gone f ≡ true → told ≡ Some (group_size code)
   unfolding kind
   told_local lost local =
       let grouped = (and_parts (is_in_group code f) _ local).0 in
@@ -76,7 +76,7 @@ module _ (nodes : List NodeInfo) (st : State) (s : StripeNo) (f : Fragment) wher
   told_global lost absent = rw (away lost, absent) refl
 
   -- what is told is the number of fragments that are read, if what is not missing determines the fragment
-  told_by : gone f.value ≡ true → told ≡ (if is_local code gone f then Some (other_count code) else (if is_safe nodes st s then Some (data_count code) else None))
+  told_by : gone f.value ≡ true → told ≡ (if is_local code gone f then Some (group_size code) else (if is_safe nodes st s then Some (data_count code) else None))
   told_by lost = elim (cases_Bool (is_local code gone f)) [
     | inl local ↦ told_local lost local ∙ rw local refl
     | inr absent ↦ told_global lost absent ∙ rw absent refl
@@ -103,7 +103,7 @@ module _ (nodes : List NodeInfo) (st : State) (s : StripeNo) (f : Fragment) wher
 
   none_to : gone f.value ≡ true → told ≡ None → ¬ Determines code (outside gone) f.value
   none_to lost none determines = elim (cases_Bool (is_local code gone f)) [
-    | inl local ↦ absurd (let e : ◌≡◌ {A = Option ℕ} (Some (other_count code)) None = sym (told_local lost local) ∙ none in cc)
+    | inl local ↦ absurd (let e : ◌≡◌ {A = Option ℕ} (Some (group_size code)) None = sym (told_local lost local) ∙ none in cc)
     | inr absent ↦ absurd (let e : ◌≡◌ {A = Option ℕ} (Some (data_count code)) None = sym (told_global lost absent ∙ rw (safe_from lost absent determines) refl) ∙ none in cc)
   ]
 

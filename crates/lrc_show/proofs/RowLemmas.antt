@@ -6,13 +6,12 @@ use Rattle.std.proofs.lemmas.Option.{same_Some}
 use Rattle.std.proofs.lemmas.List.Concat.{flat_map-append}
 use Rattle.std.proofs.lemmas.List.FromFn.{filter_of_map_range_with_len_more}
 use Rattle.lrc_code.specs.declared.codes.Code.{Code}
-use Rattle.lrc_code.specs.declared.codes.Code.TheVariants.{Wide}
 use Rattle.lrc_code.specs.declared.codes.Class.{Class}
 use Rattle.lrc_code.specs.declared.codes.Class.TheVariants.{A, B, G}
 use Rattle.lrc_code.specs.declared.losses.LossMask.{LossMask}
 use Rattle.lrc_code.specs.declared.numbers.StripeNo.{StripeNo}
 use Rattle.lrc_code.specs.declared.numbers.Fragment.{Fragment}
-use Rattle.lrc_code.specs.Codes.{fragments, fragment_count, has_fragment, code_name}
+use Rattle.lrc_code.specs.Codes.{fragments, fragment_count, has_fragment, code_name, all_fragments}
 use Rattle.lrc_code.specs.Losses.{FragmentSet, losses_in, margin_of, is_recoverable, bits_set, bits_of}
 use Rattle.lrc_code.proofs.BitsLemmas.{bits_set-bits_of}
 use Rattle.lrc_code.proofs.LossesLemmas.{losses_in-within}
@@ -71,7 +70,7 @@ module _ (code : Code) (m : FragmentSet) where
   same-members =
       sym (members-all code kept)
       ∙ filter-alike (λ (f : Fragment). has_fragment code f.value && kept f.value) (λ (f : Fragment). has_fragment code f.value && m f.value)
-      (λ f. own f.value (has_fragment code f.value) refl) (fragments Wide)
+      (λ f. own f.value (has_fragment code f.value) refl) all_fragments
       ∙ members-all code m
 
 -- ---- a row, as its fields are written
@@ -92,14 +91,14 @@ module _ (s : StripeNo) (code : Code) (l : Level) (m : FragmentSet) (of : Homes)
   written margin bits fs unhomed gs rest = (((((old ++ head) ++ margin_field margin) ++ two bits fs) ++ two unhomed gs) ++ rest) ++ codes "\n"
 
   pub row-told : (homes : List (Option Seat)) (bits unhomed : ℕ) (margin : Option ℕ) (a b c d e new : List ℕ)
-      → bits ≡ bits_of code m → homes ≡ map (λ (f : Fragment). of f.value) (fragments Wide) → unhomed ≡ bits_of code (homeless_in code of)
+      → bits ≡ bits_of code m → homes ≡ map (λ (f : Fragment). of f.value) all_fragments → unhomed ≡ bits_of code (homeless_in code of)
       → margin ≡ margin_of code (bits_set bits) → a ≡ old ++ head → b ≡ a ++ margin_field margin
       → c ≡ b ++ two bits (members_of code (bits_set bits)) → d ≡ c ++ two unhomed (members_of code (bits_set unhomed))
-      → e ≡ d ++ flat_map (λ f. codes "," ++ home_field code f (get_or homes f.value None)) (fragments Wide) → new ≡ e ++ codes "\n"
+      → e ≡ d ++ flat_map (λ f. codes "," ++ home_field code f (get_or homes f.value None)) all_fragments → new ≡ e ++ codes "\n"
       → new ≡ old ++ stripe_line s code l m of
   unfolding stripe_line
   row-told homes bits unhomed margin a b c d e new is homed lost left ea eb ec ed ee en =
-      let rest = flat_map (λ f. codes "," ++ home_field code f (get_or homes f.value None)) (fragments Wide) in
+      let rest = flat_map (λ f. codes "," ++ home_field code f (get_or homes f.value None)) all_fragments in
       let fs = members_of code (bits_set bits) in
       let gs = members_of code (bits_set unhomed) in
       let h = homeless_in code of in
@@ -111,7 +110,7 @@ module _ (s : StripeNo) (code : Code) (l : Level) (m : FragmentSet) (of : Homes)
       ∙ ap (λ n. written (margin_of code m) (bits_of code m) (members_of code m) n (members_of code (bits_set n)) rest) lost
       ∙ ap (λ ns. written (margin_of code m) (bits_of code m) (members_of code m) (bits_of code h) ns rest) (same-members code h)
       ∙ ap (λ (hs : List (Option Seat)). written (margin_of code m) (bits_of code m) (members_of code m) (bits_of code h) (members_of code h)
-      (flat_map (λ f. codes "," ++ home_field code f (get_or hs f.value None)) (fragments Wide))) homed
+      (flat_map (λ f. codes "," ++ home_field code f (get_or hs f.value None)) all_fragments)) homed
       ∙ joined old (decimal s.value) (code_name code) (level_text l) (margin_field (margin_of code m)) (hex_field (bits_of code m)) (fragments_field (members_of code m))
       (hex_field (bits_of code h)) (fragments_field (members_of code h)) (flat_map (λ f. codes "," ++ f) (home_fields code of)) (codes ",") (codes "\n")
 
@@ -127,7 +126,7 @@ module _ (nodes : List NodeInfo) (st : State) (s : StripeNo) where
 
   pub stripe-told : (code : Code) (l : Level) (mask : LossMask) (homes : List (Option Seat)) (old new : List ℕ) → code_shown st s ≡ Some code
       → Some l ≡ level_shown nodes st s → Some mask ≡ missing_shown nodes st s → Some homes ≡ homes_shown st s
-      → ((m : FragmentSet) (of : Homes) → mask.bits ≡ bits_of code m → homes ≡ map (λ (f : Fragment). of f.value) (fragments Wide) → new ≡ old ++ stripe_line s code l m of)
+      → ((m : FragmentSet) (of : Homes) → mask.bits ≡ bits_of code m → homes ≡ map (λ (f : Fragment). of f.value) all_fragments → new ≡ old ++ stripe_line s code l m of)
       → new ≡ old ++ (if has_stripe st s then shown_stripe nodes st s else [])
   stripe-told code l mask homes old new coded levelled masked homed row =
       let own = some-if (has_stripe st s) (code_of st s) code coded in
@@ -135,7 +134,7 @@ module _ (nodes : List NodeInfo) (st : State) (s : StripeNo) where
       let at = homes_of st.homes s in
       let bits : mask.bits ≡ bits_of code lost =
       ap (λ (n : LossMask). n.bits) (same_Some _ _ (masked ∙ mask-told nodes st s own.0)) ∙ ap (λ (k : Code). bits_of k lost) own.1 in
-      let all : homes_shown st s ≡ Some (map (λ (f : Fragment). at f.value) (fragments Wide)) = rw (own.0) refl in
+      let all : homes_shown st s ≡ Some (map (λ (f : Fragment). at f.value) all_fragments) = rw (own.0) refl in
       row lost at bits (same_Some _ _ (homed ∙ all)) ∙ ap (λ (k : Code). old ++ stripe_line s k l lost at) (sym own.1)
       ∙ ap (λ (k : Level). old ++ stripe_line s (code_of st s) k lost at) (same_Some _ _ (levelled ∙ level-told nodes st s own.0))
       ∙ ap (λ (b : Bool). old ++ (if b then shown_stripe nodes st s else [])) (sym own.0)

@@ -3,10 +3,9 @@ use Rattle.std.proofs.Common.{◌≡◌, ℕ, ◌+◌, ◌<◌, ◌≤◌, Bool,
 use Rattle.std.specs.List.{Contains}
 use Rattle.std.specs.Option.{option_map_or}
 use Rattle.std.proofs.lemmas.List.{take_all}
-use Rattle.lrc_code.specs.declared.codes.Code.TheVariants.{Wide}
 use Rattle.lrc_code.specs.declared.numbers.StripeNo.{StripeNo}
 use Rattle.lrc_code.specs.declared.numbers.Fragment.{Fragment}
-use Rattle.lrc_code.specs.Codes.{fragments}
+use Rattle.lrc_code.specs.Codes.{fragments, all_fragments}
 use Rattle.lrc_topology.specs.declared.NodeInfo.{NodeInfo}
 use Rattle.lrc_terms.specs.Levels.{homes_of}
 use Rattle.lrc_rules.specs.declared.kind.Kind.{Kind}
@@ -58,16 +57,16 @@ module _ (nodes : List NodeInfo) (st : State) (s : StripeNo) where
   pub row-away : (f : Fragment) → kind_shown nodes st s f ≡ None → own_row nodes st s f ≡ []
   row-away f shown = ap (λ (b : Bool). if b then work_row nodes st s f else []) (none-if (has_stripe st s && needs nodes st s f) (kind nodes st s f) shown)
 
-  by-there : (b : Bool) → flat_map (λ f. if b && needs nodes st s f then work_row nodes st s f else []) (fragments Wide) ≡ (if b then work_rows nodes st s else [])
+  by-there : (b : Bool) → flat_map (λ f. if b && needs nodes st s f then work_row nodes st s f else []) all_fragments ≡ (if b then work_rows nodes st s else [])
   by-there true =
-      texts-passing (needs nodes st s) (work_row nodes st s) (fragments Wide)
+      texts-passing (needs nodes st s) (work_row nodes st s) all_fragments
       ∙ ap (flat_map (work_row nodes st s)) (own-all (code_of st s) (λ f. option_map_or (λ seat. drains_at nodes st seat.node) (homes_of st.homes s f) true))
   by-there false = refl
 
-  pub rows-there : (i : ℕ) (old now : List ℕ) → now ≡ old ++ flat_map (own_row nodes st s) (take i (fragments Wide)) → 16 ≤ i
+  pub rows-there : (i : ℕ) (old now : List ℕ) → now ≡ old ++ flat_map (own_row nodes st s) (take i all_fragments) → 16 ≤ i
       → now ≡ old ++ (if has_stripe st s then work_rows nodes st s else [])
   rows-there i old now so_far past =
-      so_far ∙ ap (λ (fs : List Fragment). old ++ flat_map (own_row nodes st s) fs) (take_all i (fragments Wide) past) ∙ ap (λ t. old ++ t) (by-there (has_stripe st s))
+      so_far ∙ ap (λ (fs : List Fragment). old ++ flat_map (own_row nodes st s) fs) (take_all i all_fragments past) ∙ ap (λ t. old ++ t) (by-there (has_stripe st s))
 
 -- ---- the table
 

@@ -1,6 +1,6 @@
 -- Internal: no public clause reaches these definitions.
 -- What is read of each stripe and each node before it is counted or printed.
-use Rattle.std.specs.Prelude.{ℕ, List, [], ◌∷◌, ◌++◌, codes, decimal, length, count_by, sum_by}
+use Rattle.std.specs.Prelude.{ℕ, ◌-◌, Bool, not, ◌&&◌, List, [], ◌∷◌, ◌++◌, codes, decimal, length, flat_map, count_by, sum_by}
 use Rattle.lrc_code.specs.declared.numbers.StripeNo.{StripeNo}
 use Rattle.lrc_code.specs.Numbers.{same_node}
 use Rattle.lrc_code.specs.Losses.{size_of}
@@ -11,10 +11,11 @@ use Rattle.lrc_terms.specs.declared.lease.Lease.{Lease}
 use Rattle.lrc_terms.specs.Modes.{is_active, is_draining, is_gone}
 use Rattle.lrc_rules.specs.States.{State, code_of, load, mode_of, is_down, is_upgrading, is_online, homeless, missing, level}
 use Rattle.lrc_book.specs.Looks.{homes_on}
+use Rattle.lrc_forecast.specs.declared.outlook.Outlook.{Outlook}
 use Rattle.lrc_text.specs.Tables.{table_line, mode_text, online_text}
 use Rattle.lrc_show.specs.declared.nodes.NodeFacts.{NodeFacts}
 use Rattle.lrc_show.specs.declared.stripe_facts.StripeFacts.{StripeFacts}
-use Rattle.lrc_show.specs.Shown.{value_row, is_level}
+use Rattle.lrc_show.specs.Shown.{presence_word, why_words, value_row, is_level}
 
 -- ---- stripes
 
@@ -78,3 +79,41 @@ node_lines nodes =
     value_row (codes "nodes_active") (decimal (count_by (λ n. is_active n.mode) nodes)) ++ value_row (codes "nodes_draining") (decimal (count_by (λ n. is_draining n.mode) nodes))
     ++ value_row (codes "nodes_gone") (decimal (count_by (λ n. is_gone n.mode) nodes)) ++ value_row (codes "nodes_down") (decimal (count_by (λ n. n.is_down) nodes))
     ++ value_row (codes "nodes_online") (decimal (count_by (λ n. n.is_online) nodes))
+
+-- ---- fragments
+
+-- the fields of a fragment with its home on a node, by what is read of the node
+abbrev pub facts_fields : NodeFacts → List (List ℕ)
+facts_fields n =
+    decimal n.node.fault.value ∷ decimal n.node.upgrade.value ∷ presence_word n.is_online ∷ mode_text n.mode ∷ why_words n.is_down n.is_upgrading ∷ []
+
+-- ---- domains
+
+-- how many of these leases have their target on one of the nodes
+abbrev pub target_sum : List Lease → List NodeFacts → ℕ
+target_sum leases ns = sum_by (λ n. count_by (λ l. same_node n.node.number l.target.node) leases) ns
+
+-- the fields on nodes, by what is read of each and these leases, with a comma before each
+unfoldable pub sum_line : State → List Lease → List NodeFacts → List ℕ
+sum_line st leases ns =
+    flat_map (λ f. codes "," ++ f) (decimal (length ns) ∷ decimal (count_by (λ n. n.is_online) ns) ∷ decimal (sum_by (λ n. length (homes_on st n.node.number)) ns)
+    ∷ decimal (target_sum leases ns) ∷ decimal (sum_by (λ n. n.load) ns) ∷ decimal (sum_by (λ n. n.node.slots) ns) ∷ [])
+
+-- how many stripes have this level then
+abbrev pub outlook_count : Level → List Outlook → ℕ
+outlook_count l rows = count_by (λ o. is_level l o.after) rows
+
+-- how many of these stripes, none of which is whole then, have each level then
+abbrev pub risk_fields : List Outlook → List (List ℕ)
+risk_fields rows =
+    decimal (outlook_count (AtRisk 2) rows) ∷ decimal (outlook_count (AtRisk 1) rows) ∷ decimal (outlook_count (AtRisk 0) rows)
+    ∷ decimal (outlook_count Unavailable rows) ∷ decimal (outlook_count Lost rows) ∷ []
+
+-- the last fields of a row, with a comma before each: so many stripes have a home in the domain; and how many of all stripes have
+-- each level then, by the rows of those that are not whole
+unfoldable pub outlook_line : ℕ → ℕ → List Outlook → List ℕ
+outlook_line hit stripes rows = flat_map (λ f. codes "," ++ f) (decimal hit ∷ decimal (stripes - length rows) ∷ risk_fields rows)
+
+-- the stripe is lost then, and not now
+abbrev pub is_newly_lost : Outlook → Bool
+is_newly_lost o = is_level Lost o.after && not (is_level Lost o.before)

@@ -7,6 +7,7 @@ pub use Rattle.lrc_rules.specs.Urgency
 pub use Rattle.lrc_book.specs.Books
 pub use Rattle.lrc_book.specs.Looks
 pub use Rattle.lrc_forecast.specs.Forecasts
+pub use Rattle.lrc_groups.specs.Groups
 pub use Rattle.lrc_text.specs.Tables
 pub use Rattle.lrc_text.specs.Texts
 pub mod Shown

@@ -1,32 +1,41 @@
 -- What `lrcman show` prints of a state: one table of comma-separated fields.
-use Rattle.std.specs.Prelude.{ℕ, Bool, true, false, if◌then◌else◌, nat_eq, List, [], ◌∷◌, ◌++◌, codes, decimal, length, map, filter, flat_map, count_by, sum_by, Option, Some, None, option_to_list}
+use Rattle.std.specs.Prelude.{ℕ, ◌+◌, ◌-◌, ◌*◌, Bool, true, false, not, ◌&&◌, if◌then◌else◌, nat_eq, nat_lt, List, [], ◌∷◌, ◌++◌, codes, decimal, length, map, filter, flat_map, count_by, sum_by, Option, Some, None, option_to_list, is_none, is_some}
+use Rattle.std.specs.List.{list_any, range_with_len}
 use Rattle.lrc_code.specs.declared.codes.Code.{Code}
-use Rattle.lrc_code.specs.declared.codes.Code.TheVariants.{Wide}
 use Rattle.lrc_code.specs.declared.numbers.StripeNo.{StripeNo}
 use Rattle.lrc_code.specs.declared.numbers.NodeNo.{NodeNo}
 use Rattle.lrc_code.specs.declared.numbers.UpgradeNo.{UpgradeNo}
 use Rattle.lrc_code.specs.declared.numbers.Fragment.{Fragment}
-use Rattle.lrc_code.specs.Numbers.{same_node}
-use Rattle.lrc_code.specs.Codes.{fragments, has_fragment, code_name}
+use Rattle.lrc_code.specs.Numbers.{same_node, same_fault, same_upgrade}
+use Rattle.lrc_code.specs.Codes.{fragments, has_fragment, code_name, all_fragments, data_count}
 use Rattle.lrc_code.specs.Losses.{FragmentSet, margin_of, bits_of, bits_set, size_of}
-use Rattle.lrc_field.specs.Stripes.{data_count}
 use Rattle.lrc_topology.specs.declared.NodeInfo.{NodeInfo}
 use Rattle.lrc_topology.specs.declared.seat.Seat.{Seat}
+use Rattle.lrc_topology.specs.Nodes.{node_at}
 use Rattle.lrc_terms.specs.declared.lease.Lease.{Lease}
 use Rattle.lrc_terms.specs.declared.level.Level.{Level}
 use Rattle.lrc_terms.specs.declared.level.Level.TheVariants.{Whole, AtRisk, Unavailable, Lost}
 use Rattle.lrc_terms.specs.Levels.{Homes, homes_of, homeless_in}
+use Rattle.lrc_terms.specs.Leased.{ends_at}
+use Rattle.lrc_terms.specs.Stripes.{StripeFragment}
 use Rattle.lrc_terms.specs.Modes.{is_active, is_draining, is_gone}
 use Rattle.lrc_rules.specs.declared.kind.Kind.{Kind}
 use Rattle.lrc_rules.specs.declared.kind.Kind.TheVariants.{Local, Local3, Global, Move}
 use Rattle.lrc_rules.specs.States.{State, code_of, lease_of, load, mode_of, is_down, is_upgrading, is_online, homeless, missing, level}
 use Rattle.lrc_rules.specs.Repairs.{needs, kind, is_safe, is_beyond_repair}
 use Rattle.lrc_rules.specs.Urgency.{work, is_grantable}
-use Rattle.lrc_book.specs.Looks.{stripes_of, homes_on}
+use Rattle.lrc_book.specs.Looks.{stripes_of, homes_on, kind_shown, is_granted_now}
+use Rattle.lrc_forecast.specs.declared.outlook.Outage.{Outage}
+use Rattle.lrc_forecast.specs.declared.outlook.Outage.TheVariants.{Stop, Lose}
 use Rattle.lrc_forecast.specs.declared.outlook.Outlook.{Outlook}
-use Rattle.lrc_forecast.specs.Forecasts.{is_harmed}
+use Rattle.lrc_forecast.specs.Forecasts.{state_with, is_on_any, is_harmed}
+use Rattle.lrc_groups.specs.declared.named.Named.{Named}
+use Rattle.lrc_groups.specs.declared.named.Named.TheVariants as named
+use Rattle.lrc_groups.specs.Groups.{has_named, numbers_in}
 use Rattle.lrc_text.specs.Tables.{table_line, level_text, margin_field, mask_field, mode_text, online_text}
 use Rattle.lrc_text.specs.Texts.{seat_text, spaced_words}
+use Rattle.lrc_show.specs.declared.domains.DomainKind.{DomainKind}
+use Rattle.lrc_show.specs.declared.domains.DomainKind.TheVariants as domain
 use Rattle.lrc_show.specs.declared.view.View.{View}
 use Rattle.lrc_show.specs.declared.view.View.TheVariants as view
 
@@ -62,7 +71,7 @@ set_fields code m = hex_field (bits_of code m) ∷ fragments_field (members_of c
 
 -- the home of each of the sixteen fragment numbers
 abbrev pub home_fields : Code → Homes → List (List ℕ)
-home_fields code of = map (λ f. home_field code f (of f.value)) (fragments Wide)
+home_fields code of = map (λ f. home_field code f (of f.value)) all_fragments
 
 -- the row of a stripe with this code and level, these missing fragments, and these homes
 unfoldable pub stripe_line : StripeNo → Code → Level → FragmentSet → Homes → List ℕ
@@ -88,7 +97,7 @@ shown_lease l =
 
 -- the live leases of a stripe, in rising order of fragment
 unfoldable pub leases_of : State → StripeNo → List Lease
-leases_of st s = flat_map (λ f. option_to_list (lease_of st s f)) (fragments Wide)
+leases_of st s = flat_map (λ f. option_to_list (lease_of st s f)) all_fragments
 
 -- the live leases, in rising order of stripe and fragment
 abbrev pub all_leases : State → List Lease
@@ -236,6 +245,207 @@ time_values st entries = value_row (codes "upgrading") (domain_field st.upgradin
 abbrev pub status_table : List NodeInfo → State → ℕ → List ℕ
 status_table nodes st entries = codes "name,value\n" ++ stripe_values nodes st ++ seat_values nodes st ++ node_values nodes st ++ time_values st entries
 
+-- ---- fragments
+
+-- the words for a fragment with its home on a node that is online, and on one that is not
+abbrev pub presence_word : Bool → List ℕ
+presence_word true = codes "present"
+presence_word false = codes "offline"
+
+-- why a node that is not gone is offline, by whether it is down, and whether its domain upgrades
+abbrev pub why_words : Bool → Bool → List ℕ
+why_words true true = codes "down upgrading"
+why_words true false = codes "down"
+why_words false true = codes "upgrading"
+why_words false false = []
+
+-- the fields of a fragment with its home on this node: the domains, whether the fragment is present, the mode, and why it is not
+abbrev pub node_fields : State → Option NodeInfo → List (List ℕ)
+node_fields st (Some n) =
+    decimal n.fault.value ∷ decimal n.upgrade.value ∷ presence_word (is_online st n) ∷ mode_text (mode_of st n.number)
+    ∷ why_words (is_down st n.number) (is_upgrading st n) ∷ []
+node_fields st None = [] ∷ [] ∷ codes "offline" ∷ [] ∷ [] ∷ []
+
+-- the fields of a fragment with this home, or without one
+abbrev pub whereabouts : List NodeInfo → State → Option Seat → List (List ℕ)
+whereabouts nodes st (Some seat) = decimal seat.node.value ∷ decimal seat.slot ∷ node_fields st (node_at nodes seat.node)
+whereabouts nodes st None = [] ∷ [] ∷ [] ∷ [] ∷ codes "homeless" ∷ [] ∷ [] ∷ []
+
+-- the fields of a fragment with this live lease, or without one
+abbrev pub lease_fields : Option Lease → List (List ℕ)
+lease_fields (Some l) = seat_text l.target ∷ decimal l.holder.value ∷ decimal l.epoch ∷ decimal l.expiry ∷ []
+lease_fields None = [] ∷ [] ∷ [] ∷ [] ∷ []
+
+-- the row of a fragment with this home and this live lease
+unfoldable pub fragment_line : List NodeInfo → State → StripeNo → Fragment → Option Seat → Option Lease → List ℕ
+fragment_line nodes st s f home l = table_line (decimal s.value ∷ decimal f.value ∷ whereabouts nodes st home ++ lease_fields l)
+
+-- the row of a fragment
+abbrev pub shown_fragment : List NodeInfo → State → StripeNo → Fragment → List ℕ
+shown_fragment nodes st s f = fragment_line nodes st s f (homes_of st.homes s f.value) (lease_of st s f)
+
+-- the rows of the fragments of a stripe
+abbrev pub fragment_rows : List NodeInfo → State → StripeNo → List ℕ
+fragment_rows nodes st s = flat_map (shown_fragment nodes st s) (fragments (code_of st s))
+
+-- a row for each fragment of each stripe, in rising order
+abbrev pub fragments_table : List NodeInfo → State → List ℕ
+fragments_table nodes st =
+    codes "stripe,fragment,node,slot,fault,upgrade,state,mode,why,target,holder,epoch,expiry\n" ++ flat_map (fragment_rows nodes st) (stripes_of st)
+
+-- ---- domains
+
+-- the domain of this kind and number
+abbrev pub domain_at : DomainKind → ℕ → Named
+domain_at domain.Fault number = named.Fault (record { value = number })
+domain_at domain.Upgrade number = named.Upgrade (record { value = number })
+
+-- the domains of a kind that have a node, in rising order
+unfoldable pub all_domains : List NodeInfo → DomainKind → List Named
+all_domains nodes kind = filter (has_named nodes) (map (domain_at kind) (range_with_len 0 256))
+
+-- what the forecast of a domain is of: a fault domain is lost, an upgrade domain stops
+abbrev pub outage_for : DomainKind → Outage
+outage_for domain.Fault = Lose
+outage_for domain.Upgrade = Stop
+
+-- the number of a domain, or of a node
+abbrev pub shown_number : Named → ℕ
+shown_number (named.Node n) = n.value
+shown_number (named.Fault d) = d.value
+shown_number (named.Upgrade u) = u.value
+
+-- the node is the one that is named, or is in the domain
+abbrev pub is_among : Named → NodeInfo → Bool
+is_among (named.Node m) n = same_node n.number m
+is_among (named.Fault d) n = same_fault n.fault d
+is_among (named.Upgrade u) n = same_upgrade n.upgrade u
+
+-- the stripe has a home on one of the nodes
+abbrev pub is_hit : State → List NodeNo → StripeNo → Bool
+is_hit st ns s = list_any (λ f. is_on_any ns (homes_of st.homes s f.value)) all_fragments
+
+-- the state with the outage of all that are named
+abbrev pub state_without : List NodeInfo → State → Outage → Named → State
+state_without nodes st outage d = state_with outage st (numbers_in nodes (d ∷ []))
+
+-- how many of the stripes of the store have this level in another state
+abbrev pub level_count_in : List NodeInfo → State → State → Level → ℕ
+level_count_in nodes st after l = count_by (λ s. is_level l (level nodes after s)) (stripes_of st)
+
+-- how many of them have each level then
+abbrev pub level_fields : List NodeInfo → State → State → List (List ℕ)
+level_fields nodes st after =
+    decimal (level_count_in nodes st after Whole) ∷ decimal (level_count_in nodes st after (AtRisk 2)) ∷ decimal (level_count_in nodes st after (AtRisk 1))
+    ∷ decimal (level_count_in nodes st after (AtRisk 0)) ∷ decimal (level_count_in nodes st after Unavailable) ∷ decimal (level_count_in nodes st after Lost) ∷ []
+
+-- the fields on these nodes: how many they are, and how many online; the homes, the targets of live leases, all held seats; the slots
+abbrev pub sum_fields : State → List NodeInfo → List (List ℕ)
+sum_fields st ns =
+    decimal (length ns) ∷ decimal (count_by (is_online st) ns) ∷ decimal (sum_by (λ n. length (homes_on st n.number)) ns)
+    ∷ decimal (sum_by (λ n. target_count st n.number) ns) ∷ decimal (sum_by (λ n. load st n.number) ns) ∷ decimal (sum_by (λ n. n.slots) ns) ∷ []
+
+-- the row of a domain: its nodes; how many stripes have a home there; and the levels after the outage of all its nodes
+unfoldable pub shown_domain : List NodeInfo → State → Outage → Named → List ℕ
+shown_domain nodes st outage d =
+    table_line (decimal (shown_number d) ∷ sum_fields st (filter (is_among d) nodes)
+    ++ (decimal (count_by (is_hit st (numbers_in nodes (d ∷ []))) (stripes_of st)) ∷ level_fields nodes st (state_without nodes st outage d)))
+
+-- a row for each domain of a kind
+abbrev pub domains_table : List NodeInfo → State → DomainKind → List ℕ
+domains_table nodes st kind =
+    codes "domain,nodes,online,homes,targets,load,slots,stripes,whole,at_risk_margin_2,at_risk_margin_1,at_risk_margin_0,unavailable,lost\n"
+    ++ flat_map (shown_domain nodes st (outage_for kind)) (all_domains nodes kind)
+
+-- ---- health
+
+-- the row of a reason: how often it is there, and where first; nothing where it is not
+abbrev pub reason_row : {X : Type 0} → List ℕ → (X → List ℕ) → List X → List ℕ
+reason_row name place [] = []
+reason_row name place (x ∷ xs) = table_line (name ∷ decimal (length (x ∷ xs)) ∷ place x ∷ [])
+
+-- a stripe and a fragment, as a command names them
+abbrev pub fragment_words : StripeFragment → List ℕ
+fragment_words p = decimal p.0.value ++ codes " " ++ decimal p.1.value
+
+-- the stripes of this level, in rising order
+abbrev pub stripes_at : List NodeInfo → State → Level → List StripeNo
+stripes_at nodes st l = filter (λ s. is_level l (level nodes st s)) (stripes_of st)
+
+-- the fragments of a stripe that need a lease, in rising order
+abbrev pub needing_of : List NodeInfo → State → StripeNo → List StripeFragment
+needing_of nodes st s = map (λ f. (s, f)) (filter (needs nodes st s) (fragments (code_of st s)))
+
+-- the fragments that need a lease, in the order of repair
+abbrev pub needing : List NodeInfo → State → List StripeFragment
+needing nodes st = flat_map (needing_of nodes st) (work nodes st)
+
+-- the fragment needs a lease, has none and can be rebuilt, but no node is lawful for it
+abbrev pub finds_no_node : List NodeInfo → State → StripeFragment → Bool
+finds_no_node nodes st p =
+    is_some (kind_shown nodes st p.0 p.1) && (is_none (lease_of st p.0 p.1) && (not (is_granted_now nodes st p.0 p.1) && not (is_beyond_repair nodes st p.0 p.1)))
+
+-- the fragments whose leases end at the next tick, in rising order
+abbrev pub ending_fragments : State → List StripeFragment
+ending_fragments st = map (λ l. (l.stripe, l.fragment)) (filter (ends_at (st.clock + 1)) (all_leases st))
+
+-- the stripe is lost with the outage, and not without
+abbrev pub is_lost_by : List NodeInfo → State → State → StripeNo → Bool
+is_lost_by nodes st after s = is_level Lost (level nodes after s) && not (is_level Lost (level nodes st s))
+
+-- a stripe is lost with the loss of the domain that is not lost without it
+abbrev pub loses_stripe : List NodeInfo → State → Named → Bool
+loses_stripe nodes st d = list_any (is_lost_by nodes st (state_without nodes st Lose d)) (stripes_of st)
+
+-- the fault domains of which that holds, in rising order
+abbrev pub fragile_domains : List NodeInfo → State → List Named
+fragile_domains nodes st = filter (loses_stripe nodes st) (all_domains nodes domain.Fault)
+
+-- the row for slots, of which so many are taken: where less than a tenth is free, how many are
+abbrev pub slots_row : ℕ → ℕ → List ℕ
+slots_row slots taken = if nat_lt ((slots - taken) * 10) slots then table_line (codes "slots" ∷ decimal (slots - taken) ∷ [] ∷ []) else []
+
+-- the rows on levels
+unfoldable pub level_reasons : List NodeInfo → State → List ℕ
+level_reasons nodes st =
+    reason_row (codes "lost") (λ s. decimal s.value) (stripes_at nodes st Lost) ++ reason_row (codes "unavailable") (λ s. decimal s.value) (stripes_at nodes st Unavailable)
+    ++ reason_row (codes "margin_0") (λ s. decimal s.value) (stripes_at nodes st (AtRisk 0)) ++ reason_row (codes "margin_1") (λ s. decimal s.value) (stripes_at nodes st (AtRisk 1))
+    ++ reason_row (codes "margin_2") (λ s. decimal s.value) (stripes_at nodes st (AtRisk 2))
+
+-- the rows on repair
+unfoldable pub repair_reasons : List NodeInfo → State → List ℕ
+repair_reasons nodes st =
+    reason_row (codes "no_node") fragment_words (filter (finds_no_node nodes st) (needing nodes st))
+    ++ reason_row (codes "waiting") fragment_words (filter (λ p. is_granted_now nodes st p.0 p.1) (needing nodes st))
+    ++ reason_row (codes "ending") fragment_words (ending_fragments st)
+
+-- the rows on domains, and on the slots of the active nodes
+unfoldable pub room_reasons : List NodeInfo → State → List ℕ
+room_reasons nodes st =
+    reason_row (codes "upgrading") (λ u. decimal u.value) (option_to_list st.upgrading)
+    ++ reason_row (codes "fault_domains") (λ d. decimal (shown_number d)) (fragile_domains nodes st)
+    ++ slots_row (sum_by (λ n. n.slots) (filter (λ n. is_active (mode_of st n.number)) nodes)) (sum_by (λ n. load st n.number) (filter (λ n. is_active (mode_of st n.number)) nodes))
+
+-- the rows, or that there are none
+abbrev pub or_ok : List ℕ → List ℕ
+or_ok [] = codes "ok,0,\n"
+or_ok (c ∷ cs) = c ∷ cs
+
+-- a row for each reason why not all is well
+abbrev pub health_table : List NodeInfo → State → List ℕ
+health_table nodes st = codes "reason,count,first\n" ++ or_ok (level_reasons nodes st ++ repair_reasons nodes st ++ room_reasons nodes st)
+
+-- a stripe of this level is lost or unavailable, or would be after one more loss of a fragment
+abbrev pub is_grave : Level → Bool
+is_grave Whole = false
+is_grave (AtRisk margin) = nat_eq margin 0
+is_grave Unavailable = true
+is_grave Lost = true
+
+-- the store has such a stripe
+abbrev pub is_in_danger : List NodeInfo → State → Bool
+is_in_danger nodes st = list_any (λ s. is_grave (level nodes st s)) (stripes_of st)
+
 -- ---- forecasts
 
 -- how many more losses a stripe of the level survives, whichever fragments are lost
@@ -264,3 +474,11 @@ view_text view.Stripes nodes st entries = stripes_table nodes st
 view_text view.Nodes nodes st entries = nodes_table nodes st
 view_text view.Leases nodes st entries = leases_table st
 view_text view.Work nodes st entries = work_table nodes st
+view_text view.Fragments nodes st entries = fragments_table nodes st
+view_text (view.Domains kind) nodes st entries = domains_table nodes st kind
+view_text view.Health nodes st entries = health_table nodes st
+
+-- the table tells of danger
+abbrev pub tells_danger : View → List NodeInfo → State → Bool
+tells_danger view.Health nodes st = is_in_danger nodes st
+tells_danger _ nodes st = false

@@ -1,7 +1,10 @@
 //! The tables that `lrcman show` and `lrcman forecast` print.
 #![tactic(auto)]
 
+mod domains;
 mod forecast;
+mod fragments;
+mod health;
 pub mod laws;
 mod leases;
 mod nodes;
@@ -12,5 +15,6 @@ mod view;
 mod words;
 mod work;
 
+pub use domains::DomainKind;
 pub use forecast::shown_forecast;
-pub use view::{View, shown};
+pub use view::{View, shown, tells_danger};

@@ -41,7 +41,7 @@ pub(crate) fn facts_of_nodes(alloc: Global, book: &Book) -> Result<Vec<NodeFacts
 }
 
 /// What is read of a node of the book.
-fn facts_of(book: &Book, node: &NodeInfo) -> NodeFacts
+pub(crate) fn facts_of(book: &Book, node: &NodeInfo) -> NodeFacts
     requires { node_at book.now.nodes node.now.number ≡ Some node.now }
     ensures { result ≡ node_facts (state_of book.now) node.now }
 {
@@ -95,7 +95,7 @@ fn push_node(
 }
 
 /// The number of leases with their target on a node.
-fn count_targets(leases: &[Lease], node: NodeNo) -> usize
+pub(crate) fn count_targets(leases: &[Lease], node: NodeNo) -> usize
     ensures { result ≡ count_by (λ l. same_node node l.target.node) leases.now }
 {
     leases

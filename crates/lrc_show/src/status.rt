@@ -153,7 +153,7 @@ fn sum_homeless(stripes: &[StripeFacts]) -> u64
 }
 
 /// The number of held seats of all nodes.
-fn sum_loads(nodes: &[NodeFacts]) -> u64
+pub(crate) fn sum_loads(nodes: &[NodeFacts]) -> u64
     requires { length nodes.now ≤ 512 }
     ensures { result ≡ sum_by (λ n. n.load) nodes.now }
 {
@@ -165,7 +165,7 @@ fn sum_loads(nodes: &[NodeFacts]) -> u64
 }
 
 /// The number of slots of all nodes.
-fn sum_slots(nodes: &[NodeFacts]) -> u64
+pub(crate) fn sum_slots(nodes: &[NodeFacts]) -> u64
     requires { length nodes.now ≤ 512 }
     ensures { result ≡ sum_by (λ n. n.node.slots) nodes.now }
 {
@@ -205,7 +205,7 @@ fn count_down(nodes: &[NodeFacts]) -> u64
 }
 
 /// The number of nodes that are online.
-fn count_online(nodes: &[NodeFacts]) -> u64
+pub(crate) fn count_online(nodes: &[NodeFacts]) -> u64
     ensures { result ≡ count_by (λ n. n.is_online) nodes.now }
 {
     nodes.iter().filter(|node| node.is_online).count() as u64

@@ -2,8 +2,7 @@
 
 ghost use Rattle.std.specs.Prelude.{◌≡◌, ◌++◌, if◌then◌else◌, [], codes, decimal, flat_map, map, get_or, None, string_bytes, OnOk, IfErr};
 ghost use Rattle.lrc_code.specs.declared.fault.Fault.TheVariants as fault;
-ghost use Rattle.lrc_code.specs.declared.codes.Code.TheVariants.{Wide};
-ghost use Rattle.lrc_code.specs.Codes.{fragments, code_name};
+ghost use Rattle.lrc_code.specs.Codes.{fragments, code_name, all_fragments};
 ghost use Rattle.lrc_code.specs.Losses.{FragmentSet, bits_set, bits_of};
 ghost use Rattle.lrc_terms.specs.Levels.{Homes};
 ghost use Rattle.lrc_rules.specs.States.{has_stripe};
@@ -60,7 +59,7 @@ fn push_row(
     missing: LossMask,
     homes: &[Option<Seat>; FRAGMENTS],
 ) -> Result<(), AllocError>
-    ensures { OnOk result ((m : FragmentSet) (of : Homes) → missing.bits ≡ bits_of code m → homes.now ≡ map (λ f. of f.value) (fragments Wide) →
+    ensures { OnOk result ((m : FragmentSet) (of : Homes) → missing.bits ≡ bits_of code m → homes.now ≡ map (λ f. of f.value) all_fragments →
         string_bytes out.new ≡ string_bytes out.old ++ stripe_line stripe code level m of) }
 {
     push_head(out, stripe, code, level)?;
@@ -98,7 +97,7 @@ fn push_homes(
     code: Code,
     homes: &[Option<Seat>; FRAGMENTS],
 ) -> Result<(), AllocError>
-    ensures { OnOk result (string_bytes out.new ≡ string_bytes out.old ++ flat_map (λ f. codes "," ++ home_field code f (get_or homes.now f.value None)) (fragments Wide)) }
+    ensures { OnOk result (string_bytes out.new ≡ string_bytes out.old ++ flat_map (λ f. codes "," ++ home_field code f (get_or homes.now f.value None)) all_fragments) }
 {
     for fragment in Fragment::all() {
         push_home(out, code, fragment, homes[fragment.value as usize])?;

@@ -3,8 +3,11 @@
 ghost use Rattle.std.specs.Prelude.{◌≡◌, ◌+◌, length, IfOk, IfErr};
 ghost use Rattle.lrc_code.specs.declared.fault.Fault.TheVariants as fault;
 ghost use Rattle.lrc_book.specs.Books.{state_of};
-ghost use Rattle.lrc_show.specs.Shown.{view_text};
+ghost use Rattle.lrc_show.specs.Shown.{view_text, tells_danger};
 
+use crate::domains::{DomainKind, push_domains};
+use crate::fragments::push_fragment_table;
+use crate::health::{is_in_danger, push_health};
 use crate::leases::push_leases;
 use crate::nodes::push_nodes;
 use crate::status::push_status;
@@ -27,6 +30,12 @@ pub enum View {
     Leases,
     /// Each fragment that needs a lease, in the order of repair.
     Work,
+    /// Each fragment of each stripe, with its home and its live lease.
+    Fragments,
+    /// Each domain of a kind, with the levels after its loss, or its stop.
+    Domains(DomainKind),
+    /// Each reason why not all is well.
+    Health,
 }
 
 /// The table of a book's state: a line of heads and a line for each row, of fields with commas between them.
@@ -45,6 +54,31 @@ pub fn shown(alloc: Global, book: &Book, view: View) -> Result<Vec<u8>, Fault>
         View::Nodes => push_nodes(&mut out, alloc, book)?,
         View::Leases => push_leases(&mut out, alloc, book)?,
         View::Work => push_work(&mut out, alloc, book)?,
+        View::Fragments => push_fragment_table(&mut out, alloc, book)?,
+        View::Domains(kind) => push_domains(&mut out, alloc, book, kind)?,
+        View::Health => push_health(&mut out, alloc, book)?,
     }
     Ok(out.into_bytes())
+}
+
+/// Whether the table tells of danger: that of health does where a stripe is lost or unavailable, or would be after one more loss
+/// of a fragment. No other table does.
+///
+/// # Errors
+///
+/// Only `Fault::OutOfMemory`.
+pub fn tells_danger(alloc: Global, book: &Book, view: View) -> Result<bool, Fault>
+    ensures value { IfOk result (λ danger. danger ≡ tells_danger view book.now.nodes (state_of book.now)) }
+    ensures err { IfErr result (λ e. e ≡ fault.OutOfMemory) }
+{
+    match view {
+        View::Health => is_in_danger(alloc, book),
+        View::Status
+        | View::Stripes
+        | View::Nodes
+        | View::Leases
+        | View::Work
+        | View::Fragments
+        | View::Domains(_) => Ok(false),
+    }
 }

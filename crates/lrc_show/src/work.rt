@@ -1,10 +1,10 @@
 //! The table of fragments that need a lease.
 
 ghost use Rattle.std.specs.Prelude.{◌≡◌, ◌++◌, if◌then◌else◌, [], codes, decimal, flat_map, true, Some, string_bytes, OnOk, IfErr};
+ghost use Rattle.lrc_code.specs.Codes.{data_count};
 ghost use Rattle.lrc_code.specs.declared.fault.Fault.TheVariants as fault;
-ghost use Rattle.lrc_field.specs.Stripes.{data_count};
 ghost use Rattle.lrc_rules.specs.States.{has_stripe, code_of, lease_of};
-ghost use Rattle.lrc_rules.specs.Repairs.{is_global, is_safe};
+ghost use Rattle.lrc_rules.specs.Repairs.{is_global, is_safe, is_beyond_repair};
 ghost use Rattle.lrc_book.specs.Books.{state_of};
 ghost use Rattle.lrc_book.specs.Looks.{kind_shown};
 ghost use Rattle.lrc_show.specs.Shown.{kind_word, lease_sources, reads, reads_field, unleased_word, standing_fields, work_row, work_rows, work_table};
@@ -160,10 +160,23 @@ fn unleased_word(book: &Book, stripe: StripeNo, fragment: Fragment, kind: &Kind)
     if book.is_grantable(stripe, fragment) {
         return "open";
     }
-    if !is_recoverable(book, stripe) && is_global(kind) {
+    if is_beyond_repair(book, stripe, fragment, kind) {
         return "unrecoverable";
     }
     "no_node"
+}
+
+/// Whether a fragment can only be rebuilt from the whole stripe, and too many fragments are missing for that.
+pub(crate) fn is_beyond_repair(
+    book: &Book,
+    stripe: StripeNo,
+    fragment: Fragment,
+    kind: &Kind,
+) -> bool
+    requires { kind_shown book.now.nodes (state_of book.now) stripe fragment ≡ Some kind.now }
+    ensures { result ≡ is_beyond_repair book.now.nodes (state_of book.now) stripe fragment }
+{
+    !is_recoverable(book, stripe) && is_global(kind)
 }
 
 /// Whether a fragment is rebuilt from the whole stripe.

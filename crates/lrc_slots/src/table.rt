@@ -5,7 +5,7 @@ ghost use Rattle.lrc_topology.specs.Nodes.{AreNodes, node_at};
 ghost use Rattle.lrc_slots.specs.Slots.{all_free, least_free, least_free_at, load_at, with_taken, with_free, with_eligible};
 ghost use Rattle.lrc_slots.specs.Next.{next_node, next_number};
 ghost use Rattle.lrc_slots.specs.Tables.{row_at, slots_of, barred};
-ghost use Rattle.lrc_slots.specs.Barred.{Barred, no_bars, joined, with_fault, with_upgrade, with_fault_of, with_upgrade_of};
+ghost use Rattle.lrc_slots.specs.Barred.{Barred, no_bars, joined, with_fault, with_upgrade};
 ghost use Rattle.lrc_slots.specs.BarredNodes.{AreBarredNodes};
 ghost use Rattle.lrc_slots.specs.Rows.{fresh_row, position_of, alone, is_open, precedes};
 
@@ -213,25 +213,6 @@ impl SlotTable {
     {
         let row = self.first_beside(bars)?;
         Some(row.number())
-    }
-
-    /// Adds the fault domain of a node to the barred domains.
-    pub fn bar_fault_of(&self, bars: &mut BarredDomains, node: NodeNo)
-        requires { IsSome (node_at (slots_of self.now).nodes node) }
-        ensures { barred bars.new ≡ with_fault_of (slots_of self.now).nodes (barred bars.old) node }
-    {
-        let known = self.known_row(node).node();
-        bars.bar_fault(known.fault);
-    }
-
-    /// Adds the fault domain and the upgrade domain of a node to the barred domains.
-    pub fn bar_domains_of(&self, bars: &mut BarredDomains, node: NodeNo)
-        requires { IsSome (node_at (slots_of self.now).nodes node) }
-        ensures { barred bars.new ≡ with_upgrade_of (slots_of self.now).nodes (with_fault_of (slots_of self.now).nodes (barred bars.old) node) node }
-    {
-        let known = self.known_row(node).node();
-        bars.bar_fault(known.fault);
-        bars.bar_upgrade(known.upgrade);
     }
 
     /// Adds the nodes of a fault domain to the barred nodes.

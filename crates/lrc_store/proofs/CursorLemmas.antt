@@ -21,7 +21,7 @@ use Rattle.lrc_terms.specs.Leased.{is_of}
 use Rattle.lrc_rules.specs.States.{State, code_of, held_by, has_stripe, seats_of, taken_seats, lease_of, rank}
 use Rattle.lrc_rules.specs.Choices.{IsApartFrom}
 use Rattle.lrc_rules.specs.Repairs.{needs, kind}
-use Rattle.lrc_rules.specs.Urgency.{is_grantable, all_fragments}
+use Rattle.lrc_rules.specs.Urgency.{is_grantable, stripe_fragments}
 use Rattle.lrc_store.specs.Stores.{stored_of}
 use Rattle.lrc_rules.specs.Granting.{IsGrantable, ComesFirst, IsMostUrgent}
 use Rattle.lrc_rules.specs.Leases.{with_lease}
@@ -145,6 +145,6 @@ module _ (nodes : List NodeInfo) (st : State) where
     there = λ s here. there-by s (and_parts (has_work (stored_of nodes st) s) _ ((are.each s).0 here)).0;
     rising = subst (λ (by : StripeNo → ℕ). AllPairs (λ r t. comes_first by r t ≡ true) stripes) (rank-kept nodes st) are.rising;
     each = λ p there grantable.
-        let words = grantable-words nodes st p (member-filter (is_grantable nodes st) (all_fragments st) p (fragments-from st st.stripes p (grantable-own nodes st p grantable) there) grantable) in
+        let words = grantable-words nodes st p (member-filter (is_grantable nodes st) (stripe_fragments st) p (fragments-from st st.stripes p (grantable-own nodes st p grantable) there) grantable) in
         (are.each p.0).1 (and_from _ _ (has-work nodes st p.0 there (granted-works nodes st p grantable)) (ap (λ (by : StripeNo → ℕ). not (comes_first by p.0 first)) (rank-kept nodes st) ∙ ap not (past.first p words)));
   }

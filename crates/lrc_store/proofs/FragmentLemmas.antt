@@ -4,10 +4,9 @@ use Rattle.std.proofs.Math.Path.{fun_ext}
 use Rattle.std.specs.List.{list_any}
 use Rattle.std.proofs.lemmas.Bool.{cases_Bool, eqb-true, eq-eqb, ne_eqb}
 use Rattle.std.proofs.lemmas.List.{take_more}
-use Rattle.lrc_code.specs.declared.codes.Code.TheVariants.{Wide}
 use Rattle.lrc_code.specs.declared.numbers.StripeNo.{StripeNo}
 use Rattle.lrc_code.specs.declared.numbers.Fragment.{Fragment}
-use Rattle.lrc_code.specs.Codes.{fragments}
+use Rattle.lrc_code.specs.Codes.{fragments, all_fragments}
 use Rattle.lrc_topology.specs.declared.seat.Held.{Held}
 use Rattle.lrc_rules.specs.Steps.{is_other, without_upgrading, without_stripe}
 use Rattle.lrc_rules.specs.Goodness.{AreSeated}
@@ -103,30 +102,30 @@ homeless-homes st s (f ∷ fs) =
     (λ h. not-or (is_of s f.value h) (is_among s fs h)) st.homes)
 
 -- all fragments of the stripe are all its homes
-among-all : (s : StripeNo) (h : Held) → not (is_among s (fragments Wide) h) ≡ is_other s h.stripe
+among-all : (s : StripeNo) (h : Held) → not (is_among s all_fragments h) ≡ is_other s h.stripe
 among-all s h = elim (cases_Bool (eqb h.stripe.value s.value)) [
   | inl same ↦
-      let there : is_among s (fragments Wide) h ≡ true = list_any-member (λ (f : Fragment). is_of s f.value h) (fragments Wide) h.fragment (all-fragments h.fragment) (rw (same, eq-eqb h.fragment.value h.fragment.value refl) refl) in
+      let there : is_among s all_fragments h ≡ true = list_any-member (λ (f : Fragment). is_of s f.value h) all_fragments h.fragment (all-fragments h.fragment) (rw (same, eq-eqb h.fragment.value h.fragment.value refl) refl) in
       ap not there ∙ sym (ap not (eq-eqb s.value h.stripe.value (sym (eqb-true h.stripe.value s.value same))))
   | inr other ↦
-      let none : is_among s (fragments Wide) h ≡ false = list_any-All (λ (f : Fragment). is_of s f.value h) (fragments Wide) (All-members (λ f. is_of s f.value h ≡ false) (fragments Wide) (λ f here. rw other refl)) in
+      let none : is_among s all_fragments h ≡ false = list_any-All (λ (f : Fragment). is_of s f.value h) all_fragments (All-members (λ f. is_of s f.value h ≡ false) all_fragments (λ f here. rw other refl)) in
       ap not none ∙ sym (ap not (test-sym s.value h.stripe.value ∙ other))
 ]
 
-unleased-all : (st : State) (s : StripeNo) → unleased st s (fragments Wide) ≡ record st { leases = filter (λ l. is_other s l.stripe) st.leases }
+unleased-all : (st : State) (s : StripeNo) → unleased st s all_fragments ≡ record st { leases = filter (λ l. is_other s l.stripe) st.leases }
 unleased-all st s =
-    unleased-leases st s (fragments Wide)
+    unleased-leases st s all_fragments
     ∙ ap (λ ls. record st { leases = ls })
-    (filter-alike (λ (l : Lease). not (is_among s (fragments Wide) (held_by l))) (λ l. is_other s l.stripe) (λ l. among-all s (held_by l)) st.leases)
+    (filter-alike (λ (l : Lease). not (is_among s all_fragments (held_by l))) (λ l. is_other s l.stripe) (λ l. among-all s (held_by l)) st.leases)
 
-homeless-all : (st : State) (s : StripeNo) → homeless st s (fragments Wide) ≡ record st { homes = filter (λ h. is_other s h.stripe) st.homes }
+homeless-all : (st : State) (s : StripeNo) → homeless st s all_fragments ≡ record st { homes = filter (λ h. is_other s h.stripe) st.homes }
 homeless-all st s =
-    homeless-homes st s (fragments Wide)
+    homeless-homes st s all_fragments
     ∙ ap (λ hs. record st { homes = hs })
-    (filter-alike (λ (h : Held). not (is_among s (fragments Wide) h)) (λ h. is_other s h.stripe) (among-all s) st.homes)
+    (filter-alike (λ (h : Held). not (is_among s all_fragments h)) (λ h. is_other s h.stripe) (among-all s) st.homes)
 
 -- the stripe is there, also without its leases
-pub unleased-has : (st : State) (s : StripeNo) → has_stripe st s ≡ true → has_stripe (unleased st s (fragments Wide)) s ≡ true
+pub unleased-has : (st : State) (s : StripeNo) → has_stripe st s ≡ true → has_stripe (unleased st s all_fragments) s ≡ true
 unleased-has st s there = ap (λ (x : State). has_stripe x s) (unleased-all st s) ∙ there
 
 -- ---- a home whose seat is given back
@@ -158,22 +157,22 @@ module _ (nodes : List NodeInfo) (st : State) (s : StripeNo) (f : Fragment) wher
 
 -- The homes of the first fragments are cleared in the state of the table, and those of the others stand as they were.
 pub record IsFreed (nodes : List NodeInfo) (st : State) (s : StripeNo) (i : ℕ) (table : Slots) : Type 0 where
-  pub seated : AreSeated nodes (homeless st s (take i (fragments Wide)))
-  pub table_is : table ≡ kept_table nodes (homeless st s (take i (fragments Wide)))
-  pub left : (f : Fragment) → i ≤ f.value → homes_of (homeless st s (take i (fragments Wide))).homes s f.value ≡ homes_of st.homes s f.value
+  pub seated : AreSeated nodes (homeless st s (take i all_fragments))
+  pub table_is : table ≡ kept_table nodes (homeless st s (take i all_fragments))
+  pub left : (f : Fragment) → i ≤ f.value → homes_of (homeless st s (take i all_fragments)).homes s f.value ≡ homes_of st.homes s f.value
 
 module _ (nodes : List NodeInfo) (st : State) (s : StripeNo) (i : ℕ) (d : Fragment) (within : i < 16) (table : Slots) (was : IsFreed nodes st s i table) where
   abbrev now : State
-  now = homeless st s (take i (fragments Wide))
+  now = homeless st s (take i all_fragments)
 
   abbrev here : Fragment
-  here = get_or (fragments Wide) i d
+  here = get_or all_fragments i d
 
   home-left : homes_of now.homes s here.value ≡ homes_of st.homes s here.value
   home-left = let at = number-at i d within in was.left here (omega (arith, at))
 
-  more : without_home now s here ≡ homeless st s (take (i + 1) (fragments Wide))
-  more = homeless-more st s (fragments Wide) i d within
+  more : without_home now s here ≡ homeless st s (take (i + 1) all_fragments)
+  more = homeless-more st s all_fragments i d within
 
   next-freed : (next : Slots) → next ≡ kept_table nodes (without_home now s here) → IsFreed nodes st s (i + 1) next
   next-freed next is = record {
@@ -204,8 +203,8 @@ module _ (nodes : List NodeInfo) (st : State) (s : StripeNo) (i : ℕ) (d : Frag
 
 -- With the leases ended, the seats given back and the stripe taken out, what is kept is that of the state without it.
 pub dropped-kept : (st : State) (s : StripeNo) (before k : Store) (table : slots.Table) (stripes : tables.Table)
-    → IsOf st before → IsOf (unleased st s (fragments Wide)) k → k.topology ≡ before.topology
-    → slots_of table ≡ kept_table k.topology (homeless (unleased st s (fragments Wide)) s (fragments Wide))
+    → IsOf st before → IsOf (unleased st s all_fragments) k → k.topology ≡ before.topology
+    → slots_of table ≡ kept_table k.topology (homeless (unleased st s all_fragments) s all_fragments)
     → stored_in stripes ≡ stored.without_stripe (stored_in k.stripes) s
     → IsOf (without_stripe st s) (record k { table = table; stripes = stripes })
 dropped-kept st s before k table stripes first last same freed removed =
@@ -213,7 +212,7 @@ dropped-kept st s before k table stripes first last same freed removed =
     let kept : IsOf left k = subst (λ (x : State). IsOf x k) (unleased-all st s) last in record {
       known = kept.known;
       seated = without-seated k.topology kept.known st s (subst (λ ns. AreSeated ns st) (sym same) first.seated);
-      table_is = freed ∙ ap (kept_table k.topology) (ap (λ (x : State). homeless x s (fragments Wide)) (unleased-all st s) ∙ homeless-all left s);
+      table_is = freed ∙ ap (kept_table k.topology) (ap (λ (x : State). homeless x s all_fragments) (unleased-all st s) ∙ homeless-all left s);
       stripes_is = removed ∙ ap (λ (x : Stored). stored.without_stripe x s) kept.stripes_is ∙ stored-without k.topology left s;
       leases_is = kept.leases_is;
       apart = kept.apart;

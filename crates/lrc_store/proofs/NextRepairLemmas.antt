@@ -5,8 +5,7 @@ use Rattle.std.proofs.lemmas.Bool.{and_parts, cases_eq, ne_eqb}
 use Rattle.std.proofs.lemmas.Option.{same_Some}
 use Rattle.std.proofs.lemmas.List.{drop_more}
 use Rattle.std.proofs.lemmas.Nat.Bits.{bit_at-zero}
-use Rattle.lrc_code.specs.declared.codes.Code.TheVariants.{Wide}
-use Rattle.lrc_code.specs.Codes.{fragments, has_fragment}
+use Rattle.lrc_code.specs.Codes.{fragments, has_fragment, all_fragments}
 use Rattle.lrc_code.specs.declared.numbers.StripeNo.{StripeNo}
 use Rattle.lrc_code.specs.declared.numbers.SessionNo.{SessionNo}
 use Rattle.lrc_code.specs.declared.numbers.Fragment.{Fragment}
@@ -112,20 +111,20 @@ find-past test xs (suc k) d few miss =
 module _ (nodes : List NodeInfo) (st : State) (s : StripeNo) (left : ℕ)
     (past : (g : Fragment) → bits_set left g.value ≡ false → is_grantable nodes st (s, g) ≡ false) where
   -- none is grantable, where none is left
-  pub none-left : left ≡ 0 → find (λ (f : Fragment). is_grantable nodes st (s, f)) (fragments Wide) ≡ None
+  pub none-left : left ≡ 0 → find (λ (f : Fragment). is_grantable nodes st (s, f)) all_fragments ≡ None
   none-left none =
-      none-find (λ (f : Fragment). is_grantable nodes st (s, f)) (fragments Wide) (λ f here. past f (rw (none, bit_at-zero f.value) refl))
+      none-find (λ (f : Fragment). is_grantable nodes st (s, f)) all_fragments (λ f here. past f (rw (none, bit_at-zero f.value) refl))
 
   -- the first that is left is the first that is grantable, if it is
   pub first-grantable : (f : Fragment) → ((g : ℕ) → g < f.value → bits_set left g ≡ false) → is_grantable nodes st (s, f) ≡ true
-      → find (λ (g : Fragment). is_grantable nodes st (s, g)) (fragments Wide) ≡ Some f
+      → find (λ (g : Fragment). is_grantable nodes st (s, g)) all_fragments ≡ Some f
   first-grantable f low hit =
       let test = λ (g : Fragment). is_grantable nodes st (s, g) in
       let within = f.in_range in
       let here = fragment-at f in
-      find-past test (fragments Wide) f.value f (omega (arith, within)) (λ i below.
-      past (get_or (fragments Wide) i f) (ap (bits_set left) (number-at i f (omega (arith, below, within))) ∙ low i below))
-      ∙ find-at test (fragments Wide) f.value f within (ap test here ∙ hit) ∙ ap (λ (g : Fragment). Some g) here
+      find-past test all_fragments f.value f (omega (arith, within)) (λ i below.
+      past (get_or all_fragments i f) (ap (bits_set left) (number-at i f (omega (arith, below, within))) ∙ low i below))
+      ∙ find-at test all_fragments f.value f within (ap test here ∙ hit) ∙ ap (λ (g : Fragment). Some g) here
 
   -- one more is past
   pub grantable-past : (next : ℕ) (f : Fragment) → ((g : ℕ) → bits_set next g ≡ (not (eqb g f.value) && bits_set left g)) → is_grantable nodes st (s, f) ≡ false

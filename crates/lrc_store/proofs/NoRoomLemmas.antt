@@ -16,7 +16,7 @@ use Rattle.lrc_store.specs.declared.store.Store.{Store}
 use Rattle.lrc_rules.specs.States.{State, lease_of, rank}
 use Rattle.lrc_rules.specs.Placement.{chosen}
 use Rattle.lrc_rules.specs.Repairs.{needs, is_beyond_repair}
-use Rattle.lrc_rules.specs.Urgency.{is_grantable, is_repaired_before, all_fragments, next_of}
+use Rattle.lrc_rules.specs.Urgency.{is_grantable, is_repaired_before, stripe_fragments, next_of}
 use Rattle.lrc_bars.specs.Ties.{table_of, bars_of}
 use Rattle.lrc_store.specs.Stores.{IsOf}
 use Rattle.lrc_rules.proofs.MemberLemmas.{filter-member, member-filter, not-Contains-nil, no-member}
@@ -64,5 +64,5 @@ module _ (st : State) (k : Store) (kept : IsOf st k) (full : is_some (next_numbe
   unfolding next_of
   no-next =
       let test = is_grantable k.topology st in
-      sym ((least-none (is_repaired_before (rank k.topology st)) (filter test (all_fragments st))).1
-      (no-member (filter test (all_fragments st)) (λ p here. ungrantable p (filter-member test (all_fragments st) p here).1)))
+      sym ((least-none (is_repaired_before (rank k.topology st)) (filter test (stripe_fragments st))).1
+      (no-member (filter test (stripe_fragments st)) (λ p here. ungrantable p (filter-member test (stripe_fragments st) p here).1)))

@@ -7,7 +7,7 @@ use Rattle.lrc_code.specs.declared.codes.Code.{Code}
 use Rattle.lrc_code.specs.declared.codes.Code.TheVariants.{Wide, Narrow}
 use Rattle.lrc_code.specs.declared.numbers.StripeNo.{StripeNo}
 use Rattle.lrc_code.specs.declared.numbers.Fragment.{Fragment}
-use Rattle.lrc_code.specs.Codes.{fragments, fragment_count, class_of}
+use Rattle.lrc_code.specs.Codes.{fragments, fragment_count, class_of, all_fragments}
 use Rattle.lrc_code.proofs.CodesLemmas.{known-class}
 use Rattle.lrc_topology.specs.declared.NodeInfo.{NodeInfo}
 use Rattle.lrc_topology.specs.declared.seat.Seat.{Seat}
@@ -88,11 +88,11 @@ planned-beside code s seats fs i d all within =
 -- ---- the fragments of the code
 
 -- the first of all fragments, so many as the code has
-first-fragments : (code : Code) → take (fragment_count code) (fragments Wide) ≡ fragments code
+first-fragments : (code : Code) → take (fragment_count code) all_fragments ≡ fragments code
 first-fragments Wide = refl
 first-fragments Narrow = refl
 
-pub code-items : (code : Code) (items : List Fragment) (n : ℕ) → items ≡ fragments Wide → n ≡ fragment_count code → take n items ≡ fragments code
+pub code-items : (code : Code) (items : List Fragment) (n : ℕ) → items ≡ all_fragments → n ≡ fragment_count code → take n items ≡ fragments code
 code-items code items n all many = ap₂ (λ (k : ℕ) (fs : List Fragment). take k fs) many all ∙ first-fragments code
 
 -- each of them has a class

@@ -9,13 +9,12 @@ use Rattle.std.proofs.lemmas.List.Sums.{sum_by-cons}
 use Rattle.lrc_code.specs.declared.codes.Class.{Class}
 use Rattle.lrc_code.specs.declared.codes.Class.TheVariants.{A, B, G}
 use Rattle.lrc_code.specs.declared.codes.Code.{Code}
-use Rattle.lrc_code.specs.declared.codes.Code.TheVariants.{Wide}
 use Rattle.lrc_code.specs.declared.numbers.StripeNo.{StripeNo}
 use Rattle.lrc_code.specs.declared.numbers.NodeNo.{NodeNo}
 use Rattle.lrc_code.specs.declared.numbers.UpgradeNo.{UpgradeNo}
 use Rattle.lrc_code.specs.declared.numbers.Fragment.{Fragment}
 use Rattle.lrc_code.specs.Numbers.{same_node}
-use Rattle.lrc_code.specs.Codes.{fragments, fragment_count, has_fragment, members}
+use Rattle.lrc_code.specs.Codes.{fragments, fragment_count, has_fragment, members, all_fragments}
 use Rattle.lrc_code.specs.Losses.{FragmentSet, losses_in, size_of, excess}
 use Rattle.lrc_code.proofs.LossesLemmas.{size_of-classes}
 use Rattle.lrc_code.proofs.NumbersLemmas.{equal_nodes}
@@ -176,7 +175,7 @@ module _ (nodes : List NodeInfo) (st : State) (s : StripeNo) (seated : AreSeated
   is-counted f n gone hit =
       let t = away f.value gone in
       and_from _ _ (ap not (ap (online_at nodes st) (on-number f n t hit) ∙ t.off))
-      (list_any-member (λ (g : Fragment). is_home_on (stored_of nodes st) n.number (s, g)) (fragments Wide) f (all-fragments f) hit)
+      (list_any-member (λ (g : Fragment). is_home_on (stored_of nodes st) n.number (s, g)) all_fragments f (all-fragments f) hit)
 
   placed : (f : Fragment) → missing nodes st s f.value ≡ true → (n : NodeInfo) × Contains nodes n × (is_on f n ≡ true)
   placed f gone =

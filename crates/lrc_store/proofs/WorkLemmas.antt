@@ -12,7 +12,7 @@ use Rattle.lrc_code.specs.declared.codes.Code.TheVariants.{Wide, Narrow}
 use Rattle.lrc_code.specs.declared.numbers.StripeNo.{StripeNo}
 use Rattle.lrc_code.specs.declared.numbers.Fragment.{Fragment}
 use Rattle.lrc_code.specs.Numbers.{same_stripe}
-use Rattle.lrc_code.specs.Codes.{fragment, fragments, fragment_count, has_fragment}
+use Rattle.lrc_code.specs.Codes.{fragment, fragments, fragment_count, has_fragment, all_fragments}
 use Rattle.lrc_code.proofs.OrderLemmas.{find-first}
 use Rattle.lrc_topology.specs.declared.NodeInfo.{NodeInfo}
 use Rattle.lrc_terms.specs.declared.level.Level.{Level}
@@ -23,7 +23,7 @@ use Rattle.lrc_terms.proofs.LevelLemmas.{has_some-from}
 use Rattle.lrc_terms.proofs.ListLemmas.{AllPairs-map, AllPairs-append, Contains-unmap}
 use Rattle.lrc_rules.specs.States.{State, has_stripe, code_of, lease_of, drains_at, rank, level}
 use Rattle.lrc_rules.specs.Repairs.{needs}
-use Rattle.lrc_rules.specs.Urgency.{by_rank, has_work, risk, is_grantable, all_fragments, is_repaired_before, next_of}
+use Rattle.lrc_rules.specs.Urgency.{by_rank, has_work, risk, is_grantable, stripe_fragments, is_repaired_before, next_of}
 use Rattle.lrc_store.specs.Stores.{stored_of}
 use Rattle.lrc_store.specs.Repairing.{HaveGrantable}
 use Rattle.lrc_rules.proofs.MemberLemmas.{All-members, not-Contains-nil, AllPairs-head, AllPairs-tail, filter-member, member-filter, list_any-member, member-list_any, map-member}
@@ -77,7 +77,7 @@ beyond_narrow = fragment 10 (lit< tt) ∷ fragment 11 (lit< tt) ∷ fragment 12 
 
 -- the first of a code is the first of all, where none passes that the code lacks
 pub find-code : (code : Code) (test : Fragment → Bool) → ((f : Fragment) → has_fragment code f.value ≡ false → test f ≡ false)
-    → find test (fragments code) ≡ find test (fragments Wide)
+    → find test (fragments code) ≡ find test all_fragments
 find-code Wide test fails = refl
 find-code Narrow test fails =
     sym (find-append test (fragments Narrow) beyond_narrow ∙ ap (option_or (find test (fragments Narrow))) none ∙ or_none (find test (fragments Narrow)))
@@ -102,14 +102,14 @@ module _ (nodes : List NodeInfo) (st : State) where
 
   -- so the first grantable fragment of a stripe is found among the sixteen numbers
   pub find-grantable : (s : StripeNo)
-      → find (λ f. is_grantable nodes st (s, f)) (fragments (code_of st s)) ≡ find (λ f. is_grantable nodes st (s, f)) (fragments Wide)
+      → find (λ f. is_grantable nodes st (s, f)) (fragments (code_of st s)) ≡ find (λ f. is_grantable nodes st (s, f)) all_fragments
   find-grantable s =
       find-code (code_of st s) (λ f. is_grantable nodes st (s, f)) (λ f lacks. false_from_ne_true (is_grantable nodes st (s, f)) (λ granted.
       (let both : true ≡ false = sym (grantable-own (s, f) granted) ∙ lacks in cc)))
 
   pub grantable-turn : (s : StripeNo) (stripes : List StripeNo)
       → find (is_grantable nodes st) (fragments_in st (s ∷ stripes))
-      ≡ option_or (option_map (λ f. (s, f)) (find (λ f. is_grantable nodes st (s, f)) (fragments Wide))) (find (is_grantable nodes st) (fragments_in st stripes))
+      ≡ option_or (option_map (λ f. (s, f)) (find (λ f. is_grantable nodes st (s, f)) all_fragments)) (find (is_grantable nodes st) (fragments_in st stripes))
   grantable-turn s stripes =
       find-turn (is_grantable nodes st) st s stripes
       ∙ ap (λ o. option_or (option_map (λ f. (s, f)) o) (find (is_grantable nodes st) (fragments_in st stripes))) (find-grantable s)
@@ -153,7 +153,7 @@ module _ (nodes : List NodeInfo) (st : State) where
       let test = is_grantable nodes st in
       let ranks = rank nodes st in
       first-least (is_repaired_before ranks) (fragment-order ranks) (fragment-ties ranks)
-      (filter test (all_fragments st)) (filter test (fragments_in st stripes))
+      (filter test (stripe_fragments st)) (filter test (fragments_in st stripes))
       (AllPairs-filter (λ p q. is_repaired_before ranks p q ≡ true) test (fragments_in st stripes) (fragments-strict st ranks stripes have.rising))
       (λ p here.
       let at = filter-member test (fragments_in st st.stripes) p here in

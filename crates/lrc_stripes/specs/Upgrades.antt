@@ -1,11 +1,10 @@
 -- Which stripes become unrecoverable while an upgrade domain is offline.
 use Rattle.std.specs.Prelude.{ℕ, ◌<◌, Bool, true, false, not, ◌&&◌, ◌||◌, nat_lt, map, IsTrue, IsFalse, count_by}
 use Rattle.std.specs.List.{list_any}
-use Rattle.lrc_code.specs.declared.codes.Code.TheVariants.{Wide}
 use Rattle.lrc_code.specs.declared.numbers.StripeNo.{StripeNo}
 use Rattle.lrc_code.specs.declared.numbers.NodeNo.{NodeNo}
 use Rattle.lrc_code.specs.declared.numbers.UpgradeNo.{UpgradeNo}
-use Rattle.lrc_code.specs.Codes.{fragments}
+use Rattle.lrc_code.specs.Codes.{fragments, all_fragments}
 use Rattle.lrc_code.specs.Losses.{is_recoverable}
 use Rattle.lrc_terms.specs.Levels.{missing_in}
 use Rattle.lrc_nodes.specs.declared.node_state.NodeState.{NodeState}
@@ -30,7 +29,7 @@ is_lost_to t u s = t.stripes s && (is_recoverable_now t s && not (is_recoverable
 
 -- a fragment of the stripe has its home on the node
 abbrev pub is_stripe_on : Stored → NodeNo → StripeNo → Bool
-is_stripe_on t n s = list_any (λ f. is_home_on t n (s, f)) (fragments Wide)
+is_stripe_on t n s = list_any (λ f. is_home_on t n (s, f)) all_fragments
 
 -- the number of nodes that are not online and have a home of the stripe
 abbrev pub offline_count : Stored → StripeNo → ℕ

@@ -4,15 +4,15 @@ use Rattle.std.specs.List.{Contains}
 use Rattle.std.proofs.lemmas.Bool.{ltb-true}
 use Rattle.lrc_code.specs.declared.codes.Code.{Code}
 use Rattle.lrc_code.specs.declared.numbers.Fragment.{Fragment}
-use Rattle.lrc_code.specs.Codes.{fragments, fragment_count, has_fragment}
+use Rattle.lrc_code.specs.Codes.{fragments, fragment_count, has_fragment, all_fragments}
 use Rattle.lrc_code.proofs.NumbersLemmas.{equal_fragments}
 use Rattle.std.proofs.lemmas.List.{get_or-map}
 use Rattle.std.proofs.lemmas.List.FromFn.{get_or-range_with_len}
 use Rattle.lrc_code.specs.declared.codes.Code.TheVariants.{Wide, Narrow}
 
 -- the position of a fragment in the list is its number
-pub fragment-number : (i : ℕ) (d : Fragment) → i < 16 → (get_or (fragments Wide) i d).value ≡ i
-fragment-number i d within = sym (get_or-map (λ (f : Fragment). f.value) (fragments Wide) i d 0 within) ∙ (get_or-range_with_len 0 16 i 0 within ∙ zero-add i)
+pub fragment-number : (i : ℕ) (d : Fragment) → i < 16 → (get_or all_fragments i d).value ≡ i
+fragment-number i d within = sym (get_or-map (λ (f : Fragment). f.value) all_fragments i d 0 within) ∙ (get_or-range_with_len 0 16 i 0 within ∙ zero-add i)
 
 -- the same for each code
 pub fragment-number_in : (code : Code) (i : ℕ) (d : Fragment) → i < fragment_count code → (get_or (fragments code) i d).value ≡ i

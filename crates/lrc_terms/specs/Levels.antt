@@ -2,12 +2,11 @@
 use Rattle.std.specs.Prelude.{ℕ, ◌<◌, IsTrue, IsFalse, Bool, true, false, not, ◌&&◌, ◌||◌, if◌then◌else◌, nat_lt, nat_eq, List, map, find, Option, Some, None, is_none, unwrap_or, option_map}
 use Rattle.std.specs.Option.{option_map_or}
 use Rattle.lrc_code.specs.declared.codes.Code.{Code}
-use Rattle.lrc_code.specs.declared.codes.Code.TheVariants.{Wide}
 use Rattle.lrc_code.specs.declared.losses.LossMask.{LossMask}
 use Rattle.lrc_code.specs.declared.numbers.StripeNo.{StripeNo}
 use Rattle.lrc_code.specs.declared.numbers.NodeNo.{NodeNo}
 use Rattle.lrc_code.specs.Numbers.{same_stripe}
-use Rattle.lrc_code.specs.Codes.{has_fragment, fragment_count, fragments}
+use Rattle.lrc_code.specs.Codes.{has_fragment, fragment_count, fragments, all_fragments}
 use Rattle.lrc_code.specs.Losses.{FragmentSet, size_of, bits_of, is_recoverable, margin_of}
 use Rattle.lrc_topology.specs.declared.seat.Seat.{Seat}
 use Rattle.lrc_topology.specs.declared.seat.Held.{Held}
@@ -89,7 +88,7 @@ rank_at Lost = 4
 
 -- the homes by the sixteen fragment numbers, in ascending order
 unfoldable pub homes_if : Bool → Homes → Option (List (Option Seat))
-homes_if there homes = if there then Some (map (λ f. homes f.value) (fragments Wide)) else None
+homes_if there homes = if there then Some (map (λ f. homes f.value) all_fragments) else None
 
 -- the missing fragments, as a mask
 unfoldable pub missing_if : Bool → Code → (NodeNo → Bool) → Homes → Option LossMask

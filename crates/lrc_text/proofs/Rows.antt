@@ -6,7 +6,7 @@ use Rattle.lrc_code.specs.declared.numbers.SessionNo.{SessionNo}
 use Rattle.lrc_code.specs.declared.numbers.NodeNo.{NodeNo}
 use Rattle.lrc_code.specs.declared.numbers.Fragment.{Fragment}
 use Rattle.lrc_code.specs.declared.codes.Code.TheVariants.{Wide}
-use Rattle.lrc_code.specs.Codes.{fragments}
+use Rattle.lrc_code.specs.Codes.{fragments, all_fragments}
 use Rattle.lrc_code.specs.Losses.{margin_of}
 use Rattle.lrc_topology.specs.declared.NodeInfo.{NodeInfo}
 use Rattle.lrc_rules.specs.declared.command.Command.{Command}
@@ -147,7 +147,7 @@ two_placed = one_placed ++ codes "2 placed 15:0 17:0 18:0 19:0 0:1 1:1 2:1 3:1 4
 
 -- the missing fragments of stripe 1 after a script
 abbrev pub missing_after : List NodeInfo → List Command → List ℕ
-missing_after nodes script = filter (missing nodes (played nodes script).state (stripe 1)) (map (λ f. f.value) (fragments Wide))
+missing_after nodes script = filter (missing nodes (played nodes script).state (stripe 1)) (map (λ f. f.value) all_fragments)
 
 -- how many further losses the stripe withstands
 abbrev pub margin_after : List NodeInfo → List Command → Option ℕ

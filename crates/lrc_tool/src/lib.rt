@@ -16,7 +16,7 @@ pub use lrc_forecast::Outage;
 pub use lrc_groups::Named;
 pub use lrc_outputs::{Goal, Status};
 pub use lrc_script::{Cause, ScriptError, parse_script};
-pub use lrc_show::View;
+pub use lrc_show::{DomainKind, View};
 pub use lrc_streams::{Plain, RunFault, Sink, Source};
 pub use program::run;
 pub use recovery::recover;

@@ -7,10 +7,9 @@ use Rattle.std.proofs.lemmas.List.{get_or-map, map-append, ext_get_or}
 use Rattle.std.proofs.lemmas.List.FromFn.{length-map-range_with_len, get_or-map-range_with_len}
 use Rattle.std.proofs.lemmas.Nat.{mod_below}
 use Rattle.std.proofs.Math.Nat.{mod-eq_of_lt}
-use Rattle.lrc_code.specs.declared.codes.Code.TheVariants.{Wide}
 use Rattle.lrc_code.specs.declared.numbers.StripeNo.{StripeNo}
 use Rattle.lrc_code.specs.declared.numbers.Fragment.{Fragment}
-use Rattle.lrc_code.specs.Codes.{fragments}
+use Rattle.lrc_code.specs.Codes.{fragments, all_fragments}
 use Rattle.lrc_code.proofs.NumbersLemmas.{equal_stripes, equal_fragments}
 use Rattle.lrc_terms.specs.Stripes.{StripeFragment, stripe_at}
 use Rattle.lrc_terms.proofs.CodeListLemmas.{fragment-number}
@@ -23,7 +22,7 @@ first = record { value = 0; in_range = lit< tt }
 
 -- the places of one stripe
 abbrev places_of : StripeNo → List StripeFragment
-places_of s = map (λ f. let p : StripeFragment = (s, f) in p) (fragments Wide)
+places_of s = map (λ f. let p : StripeFragment = (s, f) in p) all_fragments
 
 own-places : (a : ℕ) → places_of (stripe_at a) ≡ map place_at (range_with_len (16 * a) 16)
 own-places a =
@@ -33,8 +32,8 @@ own-places a =
     let stripe : (16 * a + i) / 16 ≡ a = omega (arith, low) in
     let number : (16 * a + i) % 16 ≡ i = omega (arith, low) in
     let f : Fragment = record { value = (16 * a + i) % 16; in_range = mod_below (16 * a + i) 16 (lit< tt) } in
-    get_or-map (λ f. let p : StripeFragment = (stripe_at a, f) in p) (fragments Wide) i first d low
-    ∙ ap₂ (λ (s : StripeNo) (g : Fragment). let p : StripeFragment = (s, g) in p) (ap stripe_at (sym stripe)) (equal_fragments (get_or (fragments Wide) i first) f (fragment-number i first low ∙ sym number))
+    get_or-map (λ f. let p : StripeFragment = (stripe_at a, f) in p) all_fragments i first d low
+    ∙ ap₂ (λ (s : StripeNo) (g : Fragment). let p : StripeFragment = (s, g) in p) (ap stripe_at (sym stripe)) (equal_fragments (get_or all_fragments i first) f (fragment-number i first low ∙ sym number))
     ∙ sym (get_or-map-range_with_len place_at (16 * a) 16 i (16 * a + i) d low refl))
 
 places-from : (a n : ℕ) → flat_map places_of (map stripe_at (range_with_len a n)) ≡ map place_at (range_with_len (16 * a) (16 * n))

@@ -8,9 +8,11 @@ ghost use Rattle.lrcman.specs.declared.stop.Stop.TheVariants as stop;
 
 mod named;
 mod stop;
+mod views;
 
 use crate::named::parse_named;
 use crate::stop::Stop;
+use crate::views::parse_view;
 use clap::{Arg, ArgAction, ArgMatches, Command};
 use lrc_code::Code;
 use lrc_tool::{
@@ -50,7 +52,7 @@ fn command_line<'a>(alloc: Global) -> Result<Command<'a>, AllocError> {
     let command = command.subcommand(Command::new(alloc, "check"))?;
     let command = command.subcommand(Command::new(alloc, "image"))?;
     let command = command.subcommand(Command::new(alloc, "resume"))?;
-    let command = with_one(command, of_word(alloc, "show", "what"))?;
+    let command = with_one(command, of_words(alloc, "show", "what"))?;
     let command = with_one(command, of_words(alloc, "may-stop", "nodes"))?;
     let command = with_one(command, of_words(alloc, "may-lose", "nodes"))?;
     with_codes(alloc, command)
@@ -137,14 +139,7 @@ fn named_in(alloc: Global, matches: &ArgMatches<'_>) -> Result<Vec<Named>, Stop>
 }
 
 fn view_in(matches: &ArgMatches<'_>) -> Result<View, Stop> {
-    match matches.get_str("what") {
-        Some("status") => Ok(View::Status),
-        Some("stripes") => Ok(View::Stripes),
-        Some("nodes") => Ok(View::Nodes),
-        Some("leases") => Ok(View::Leases),
-        Some("work") => Ok(View::Work),
-        _ => Err(Stop::Usage),
-    }
+    parse_view(matches.get_strs("what").ok_or(Stop::Usage)?)
 }
 
 /// Does what the command line asks for; scripts run on these threads.

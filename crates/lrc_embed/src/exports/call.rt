@@ -80,7 +80,7 @@ pub extern "C" fn lrc_embed_peek(
 }
 
 /// Writes the reply that a call would get.
-fn decide(book: &Book, session: SessionNo, command: Command, reply: &mut LrcReply) -> u32
+pub(super) fn decide(book: &Book, session: SessionNo, command: Command, reply: &mut LrcReply) -> u32
     ensures done { (result ≡ DONE) → IsReplyOf book.now session command reply.new }
     ensures full { (result ≡ FULL) ↔ (length book.now.history ≡ book.now.limit) }
     ensures statuses { IsOneOf result (DONE ∷ FULL ∷ []) }

@@ -1,12 +1,16 @@
-//! The words for the numbers of statuses, replies and refusals.
+//! The words for numbers.
 
-ghost use Rattle.std.specs.Prelude.{option_map};
+ghost use Rattle.std.specs.Prelude.{◌≡◌, option_map};
 ghost use Rattle.lrc_records.specs.Words.{status_name, reply_name, refusal_name};
 ghost use Rattle.lrc_embed.specs.Names.{IsName};
+ghost use Rattle.lrc_embed.specs.Printed.{level_name, mode_name, word_of_code, repair_name};
 
 use crate::exports::image::put_text;
 use crate::status::UNKNOWN;
+use lrc_book::{Level, Mode};
+use lrc_code::Code;
 use lrc_records::{refusal_name, reply_name, status_name};
+use lrc_text::{level_word, mode_word};
 
 /// The word for a status. It fills the first `length` bytes. If there is less room, nothing is written but the
 /// `length` that it needs.
@@ -35,8 +39,85 @@ pub extern "C" fn lrc_embed_refusal_name(refusal: u8, text: &mut [u8], length: &
     put_name(refusal_name(refusal), text, length)
 }
 
+/// The word for a kind of level. It is written as `lrc_embed_status_name` says.
+#[unsafe(no_mangle)]
+pub extern "C" fn lrc_embed_level_name(kind: u8, text: &mut [u8], length: &mut usize) -> u32
+    ensures { IsName (level_name kind) result text.old text.new length.old length.new }
+{
+    put_name(level_name(kind), text, length)
+}
+
+/// The word for a kind of mode. It is written as `lrc_embed_status_name` says.
+#[unsafe(no_mangle)]
+pub extern "C" fn lrc_embed_mode_name(kind: u8, text: &mut [u8], length: &mut usize) -> u32
+    ensures { IsName (mode_name kind) result text.old text.new length.old length.new }
+{
+    put_name(mode_name(kind), text, length)
+}
+
+/// The word for a code. It is written as `lrc_embed_status_name` says.
+#[unsafe(no_mangle)]
+pub extern "C" fn lrc_embed_code_name(code: u8, text: &mut [u8], length: &mut usize) -> u32
+    ensures { IsName (word_of_code code) result text.old text.new length.old length.new }
+{
+    put_name(word_of_code(code), text, length)
+}
+
+/// The word for a kind of repair. It is written as `lrc_embed_status_name` says.
+#[unsafe(no_mangle)]
+pub extern "C" fn lrc_embed_repair_name(repair: u8, text: &mut [u8], length: &mut usize) -> u32
+    ensures { IsName (repair_name repair) result text.old text.new length.old length.new }
+{
+    put_name(repair_name(repair), text, length)
+}
+
+fn level_name(kind: u8) -> Option<&'static str>
+    ensures { option_map (λ word. word.now) result ≡ level_name kind }
+{
+    match kind {
+        1 => Some(level_word(Level::Whole)),
+        2 => Some(level_word(Level::AtRisk(0))),
+        3 => Some(level_word(Level::Unavailable)),
+        4 => Some(level_word(Level::Lost)),
+        _ => None,
+    }
+}
+
+fn mode_name(kind: u8) -> Option<&'static str>
+    ensures { option_map (λ word. word.now) result ≡ mode_name kind }
+{
+    match kind {
+        1 => Some(mode_word(Mode::Active)),
+        2 => Some(mode_word(Mode::Draining)),
+        3 => Some(mode_word(Mode::Gone)),
+        _ => None,
+    }
+}
+
+fn word_of_code(code: u8) -> Option<&'static str>
+    ensures { option_map (λ word. word.now) result ≡ word_of_code code }
+{
+    match code {
+        1 => Some(Code::Wide.name()),
+        2 => Some(Code::Narrow.name()),
+        _ => None,
+    }
+}
+
+fn repair_name(repair: u8) -> Option<&'static str>
+    ensures { option_map (λ word. word.now) result ≡ repair_name repair }
+{
+    match repair {
+        1 => Some("local"),
+        2 => Some("global"),
+        3 => Some("move"),
+        4 => Some("local"),
+        _ => None,
+    }
+}
+
 /// Writes a word into the first bytes of a buffer, if there is a word and it has room for it.
-fn put_name(name: Option<&'static str>, text: &mut [u8], length: &mut usize) -> u32
+pub(super) fn put_name(name: Option<&'static str>, text: &mut [u8], length: &mut usize) -> u32
     ensures { IsName (option_map (λ word. word.now) name.entry) result text.old text.new length.old length.new }
 {
     match name {

@@ -2,8 +2,7 @@
 
 ghost use Rattle.std.specs.Prelude.{◌≡◌, List, IsTrue, IfSome, find, is_some, option_map};
 ghost use Rattle.std.specs.List.{All};
-ghost use Rattle.lrc_code.specs.declared.codes.Code.TheVariants.{Wide};
-ghost use Rattle.lrc_code.specs.Codes.{fragments};
+ghost use Rattle.lrc_code.specs.Codes.{fragments, all_fragments};
 ghost use Rattle.lrc_code.specs.Losses.{bits_set};
 ghost use Rattle.lrc_stripes.specs.Tables.{stored_in};
 ghost use Rattle.lrc_rules.specs.declared.entry.Entry.{Entry};
@@ -97,7 +96,7 @@ impl Store {
         requires tied { IsTied self.now }
         requires there { IsTrue ((stored_in self.now.stripes).stripes stripe) }
         ensures first { (st : State) → IsOf st self.now → option_map fragment_of result
-            ≡ option_map (λ f. (stripe, f)) (find (λ f. is_grantable self.now.topology st (stripe, f)) (fragments Wide)) }
+            ≡ option_map (λ f. (stripe, f)) (find (λ f. is_grantable self.now.topology st (stripe, f)) all_fragments) }
         ensures repair { IfSome result (λ r. (st : State) → IsOf st self.now → IsRepair self.now.topology st r) }
     {
         let waiting = self.waiting(stripe);

@@ -2,7 +2,7 @@
 
 ghost use Rattle.std.specs.Prelude.{◌≡◌, true, false, take, IsSome, OnOk, IfErr};
 ghost use Rattle.lrc_code.specs.declared.codes.Code.TheVariants.{Wide};
-ghost use Rattle.lrc_code.specs.Codes.{fragments, fragment_count};
+ghost use Rattle.lrc_code.specs.Codes.{fragments, fragment_count, all_fragments};
 ghost use Rattle.lrc_slots.specs.Tables.{slots_of};
 ghost use Rattle.lrc_rules.specs.declared.reply.Reply.TheVariants.{Dropped};
 ghost use Rattle.lrc_answers.specs.Answers.{told};
@@ -131,7 +131,7 @@ impl Store {
         ghost st: { State }
         requires { IsOf st self.old }
         ensures nodes { self.new.topology ≡ self.old.topology }
-        ensures kept { IsOf (unleased st stripe (fragments Wide)) self.new }
+        ensures kept { IsOf (unleased st stripe all_fragments) self.new }
     {
         if self.leases.leased(stripe).bits() == 0 {
             return;
@@ -147,7 +147,7 @@ impl Store {
         requires kept { IsOf st self.old }
         requires there { has_stripe st stripe ≡ true }
         ensures rest { self.new ≡ record self.old { table = self.new.table } }
-        ensures table { slots_of self.new.table ≡ kept_table self.old.topology (homeless st stripe (fragments Wide)) }
+        ensures table { slots_of self.new.table ≡ kept_table self.old.topology (homeless st stripe all_fragments) }
     {
         for fragment in Fragment::all().iter() {
             if let Some(seat) = self.stripes.home(stripe, *fragment) {

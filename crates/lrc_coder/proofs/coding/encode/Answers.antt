@@ -1,7 +1,8 @@
 use Rattle.std.proofs.Common.{◌≡◌, ◌<◌, length, map, sym, ap, ◌∙◌, subst, arith, refl}
 use Rattle.std.proofs.Math.Seq.{map-set_same}
 use Rattle.std.proofs.lemmas.List.{map-set, length-map}
-use Rattle.lrc_field.specs.Stripes.{data_of, in_parity, sum_of, data_count}
+use Rattle.lrc_code.specs.Codes.{data_count}
+use Rattle.lrc_field.specs.Stripes.{data_of, in_parity, sum_of}
 use Rattle.lrc_coder.specs.Buffers.{read, written_buffers, bytes_at}
 use Rattle.lrc_coder.proofs.StripeLemmas.{counted_data, data_long, target_long, written_at, filled_more, stripe_of}
 use Rattle.lrc_coder.proofs.coding.encode.Goals as goal

@@ -1,6 +1,7 @@
 use Rattle.std.proofs.Common.{◌/◌, ◌%◌, arith, refl, ap, ◌∙◌}
 use Rattle.std.proofs.Math.ListN.{length-set}
-use Rattle.lrc_field.specs.Stripes.{data_count, generator}
+use Rattle.lrc_code.specs.Codes.{data_count}
+use Rattle.lrc_field.specs.Stripes.{generator}
 use Rattle.lrc_coder.proofs.ProductLemmas.{filled, unfilled, zeros_at}
 use Rattle.lrc_coder.proofs.matrices.matrix.Goals as goal
 

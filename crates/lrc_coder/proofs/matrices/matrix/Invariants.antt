@@ -1,5 +1,6 @@
 use Rattle.std.proofs.Common.{◌≡◌, ℕ, ◌/◌, ◌%◌, ◌<◌, ◌≤◌, length, get_or}
-use Rattle.lrc_field.specs.Stripes.{data_count, generator}
+use Rattle.lrc_code.specs.Codes.{data_count}
+use Rattle.lrc_field.specs.Stripes.{generator}
 use Rattle.lrc_coder.proofs.matrices.matrix.Given as goal
 
 -- the coefficients so far, and zeros

@@ -2,10 +2,8 @@ use Rattle.std.proofs.Common.{◌≡◌, ◌≤◌, inl, inr, Bool, true, false,
 use Rattle.std.specs.Prelude.{flat_map}
 use Rattle.std.proofs.lemmas.Bool.{cases_lt}
 use Rattle.std.proofs.lemmas.List.{take_all}
-use Rattle.lrc_code.specs.declared.codes.Code.TheVariants.{Wide}
 use Rattle.lrc_code.specs.declared.numbers.Fragment.{Fragment}
-use Rattle.lrc_code.specs.Codes.{fragments, fragment_count}
-use Rattle.lrc_field.specs.Stripes.{data_count}
+use Rattle.lrc_code.specs.Codes.{all_fragments, fragment_count, data_count}
 use Rattle.lrc_coding.specs.Told.{bytes_line}
 use Rattle.lrc_coding.proofs.LineLemmas.{own_line, matrix-all, line-more, line-there, line-away}
 use Rattle.lrc_coding.proofs.matrix.push_matrix.Goals as goal
@@ -39,5 +37,5 @@ returns c =
     let i = c.loop-fragment.fragment-index in
     let past : 16 ≤ i = omega (arith, c.loop-fragment-test.false) in
     c.loop-fragment.invariant
-    ∙ ap (λ (fs : List Fragment). string_bytes c.args.out.now ++ flat_map (own_line c.args.code) fs) (take_all i (fragments Wide) past)
+    ∙ ap (λ (fs : List Fragment). string_bytes c.args.out.now ++ flat_map (own_line c.args.code) fs) (take_all i all_fragments past)
     ∙ ap (λ t. string_bytes c.args.out.now ++ t) (matrix-all c.args.code)

@@ -2,10 +2,9 @@ use Rattle.std.proofs.Common.{rules, ◌≡◌, ℕ, Bool, List, length, get_or,
 use Rattle.std.specs.List.{list_any}
 use Rattle.std.proofs.lemmas.Option.{same_Some}
 use Rattle.lrc_code.specs.declared.codes.Code.{Code}
-use Rattle.lrc_code.specs.declared.codes.Code.TheVariants.{Wide}
 use Rattle.lrc_code.specs.declared.losses.LossMask.{LossMask}
 use Rattle.lrc_code.specs.declared.numbers.Fragment.{Fragment}
-use Rattle.lrc_code.specs.Codes.{fragments}
+use Rattle.lrc_code.specs.Codes.{all_fragments}
 use Rattle.lrc_code.specs.Losses.{bits_set, bits_of}
 use Rattle.lrc_topology.specs.declared.seat.Seat.{Seat}
 use Rattle.lrc_terms.specs.declared.lease.Lease.{Lease}
@@ -43,7 +42,7 @@ returns c = λ ns are.
     let masked : Some c.unwrap-missing_now.result ≡ missing_shown nodes st s = search rules in
     let levelled : Some c.unwrap.result ≡ level_shown nodes st s = search rules in
     let own : code ≡ code_of st s = same_Some _ _ (coded ∙ code-told nodes st s there) in
-    let homes : c.unwrap-homes.result ≡ map (λ (f : Fragment). homes_of st.homes s f.value) (fragments Wide) = same_Some _ _ (homed ∙ homes-told nodes st s there) in
+    let homes : c.unwrap-homes.result ≡ map (λ (f : Fragment). homes_of st.homes s f.value) all_fragments = same_Some _ _ (homed ∙ homes-told nodes st s there) in
     let misses : now ≡ bits_of (code_of st s) (missing nodes st s) = ap (λ (m : LossMask). m.bits) (same_Some _ _ (masked ∙ mask-told nodes st s there)) in
     let first : c.unwrap.result ≡ level nodes st s = same_Some _ _ (levelled ∙ level-told nodes st s there) in
     let hits = c.fragments_on-hit.ensures (homes_of st.homes s) homes in
@@ -67,7 +66,7 @@ returns c = λ ns are.
           ∙ ap (λ (o : Outage). length (ended_leases st (state_with o st ns) s)) (sym w.in-Lose-outage.is)
     ] in
     let going : List (Option Seat) → Bool =
-    λ of. list_any (has_going_seat c.args.hit_nodes.now c.args.outage nodes st s (λ f. get_or of f None)) (fragments Wide) in
+    λ of. list_any (has_going_seat c.args.hit_nodes.now c.args.outage nodes st s (λ f. get_or of f None)) all_fragments in
     outlook-told nodes st ns s c.args.hit_nodes.now are code own hit now bare hits misses unhomed c.requires.seated.one_home c.args.outage c.joined-missing.result.bits
     c.match-outage.homeless.bits c.without.result.bits c.match-outage-2.leases_ended c.loses_seat.result c.unwrap.result c.level_by.result first c.joined-missing.ensures bared c.level_by.ensures
     c.without.ensures ended (c.loses_seat.ensures ∙ ap going homes ∙ loses-as nodes st c.requires.seated ns c.args.hit_nodes.now are c.args.outage s)

@@ -1,8 +1,7 @@
 use Rattle.std.proofs.Common.{◌≡◌, ◌+◌, List, None, Some, get_or, refl, sym, ap, subst, ◌∙◌}
 use Rattle.std.proofs.lemmas.Result.{err_from_is_err_and}
-use Rattle.lrc_code.specs.declared.codes.Code.TheVariants.{Wide}
 use Rattle.lrc_code.specs.declared.numbers.Fragment.{Fragment}
-use Rattle.lrc_code.specs.Codes.{fragments}
+use Rattle.lrc_code.specs.Codes.{all_fragments}
 use Rattle.lrc_topology.specs.declared.NodeInfo.{NodeInfo}
 use Rattle.lrc_topology.specs.declared.seat.Held.{Held}
 use Rattle.lrc_stripes.specs.Stored.{Stored}
@@ -25,7 +24,7 @@ restore_home-requires-clause-homeless c =
     let i = c.loop-fragment.fragment-index in
     let r = c.args.row.now in
     let d = c.fragment-item.result in
-    let f = get_or (fragments Wide) i d in
+    let f = get_or all_fragments i d in
     let bare = sym (ap (λ (t : Stored). t.homes r.stripe f.value) tied.1.stripes_is) ∙ c.requires.bare f.value in
     subst (λ (fs : List Fragment). (stored_in c.loop-fragment.store.stripes).homes r.stripe (get_or fs i d).value ≡ None) (sym so_far.all)
     (next-bare r i d c.loop-fragment-test.true tied.0 c.loop-fragment.store bare (so_far.kept tied.0 tied.1))

@@ -1,7 +1,6 @@
 use Rattle.std.proofs.Common.{◌≡◌, ◌++◌, take, get_or, codes, None, string_bytes}
 use Rattle.std.specs.Prelude.{flat_map}
-use Rattle.lrc_code.specs.declared.codes.Code.TheVariants.{Wide}
-use Rattle.lrc_code.specs.Codes.{fragments}
+use Rattle.lrc_code.specs.Codes.{fragments, all_fragments}
 use Rattle.lrc_show.specs.Shown.{home_field}
 use Rattle.lrc_show.proofs.stripes.push_homes.Given as goal
 
@@ -9,4 +8,4 @@ use Rattle.lrc_show.proofs.stripes.push_homes.Given as goal
 abbrev pub invariant-loop-fragment : goal.invariant-loop-fragment
 invariant-loop-fragment l =
     string_bytes l.out
-    ≡ string_bytes l.initial.out ++ flat_map (λ f. codes "," ++ home_field l.code f (get_or l.homes f.value None)) (take l.fragment-index (fragments Wide))
+    ≡ string_bytes l.initial.out ++ flat_map (λ f. codes "," ++ home_field l.code f (get_or l.homes f.value None)) (take l.fragment-index all_fragments)

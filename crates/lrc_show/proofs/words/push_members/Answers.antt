@@ -1,8 +1,7 @@
 use Rattle.std.proofs.Common.{◌≤◌, ◌+◌, ◌++◌, List, get_or, take, length, string_bytes, sym, ap, ◌∙◌, arith}
 use Rattle.std.proofs.lemmas.List.{take_all}
-use Rattle.lrc_code.specs.declared.codes.Code.TheVariants.{Wide}
 use Rattle.lrc_code.specs.declared.numbers.Fragment.{Fragment}
-use Rattle.lrc_code.specs.Codes.{fragments}
+use Rattle.lrc_code.specs.Codes.{all_fragments}
 use Rattle.lrc_code.specs.Losses.{bits_set}
 use Rattle.lrc_show.specs.Shown.{fragments_field}
 use Rattle.lrc_show.proofs.FieldLemmas.{is_start, own_members, member-more, member-passed, members-all, number-added, not-start}
@@ -18,8 +17,8 @@ loop-fragment-preserved c =
     let i = c.loop-fragment.fragment-index in
     let d = c.fragment-item.result in
     let f : Fragment = get_or items i d in
-    let fs = own_members code m (take i (fragments Wide)) in
-    let more = own_members code m (take (i + 1) (fragments Wide)) in
+    let fs = own_members code m (take i all_fragments) in
+    let more = own_members code m (take (i + 1) all_fragments) in
     let start = string_bytes c.args.out.now in
     let told = c.loop-fragment.invariant.told in
     let first = c.loop-fragment.invariant.first in
@@ -43,7 +42,7 @@ returns c =
     let code = c.args.code in
     let m = bits_set c.args.mask.bits in
     let i = c.loop-fragment.fragment-index in
-    let past : length (fragments Wide) ≤ i = omega (arith, c.loop-fragment-test.false, c.loop-fragment.auto.fragment-index-end) in
+    let past : length all_fragments ≤ i = omega (arith, c.loop-fragment-test.false, c.loop-fragment.auto.fragment-index-end) in
     c.loop-fragment.invariant.told
-    ∙ ap (λ (fs : List Fragment). string_bytes c.args.out.now ++ fragments_field (own_members code m fs)) (take_all i (fragments Wide) past)
+    ∙ ap (λ (fs : List Fragment). string_bytes c.args.out.now ++ fragments_field (own_members code m fs)) (take_all i all_fragments past)
     ∙ ap (λ (fs : List Fragment). string_bytes c.args.out.now ++ fragments_field fs) (members-all code m)

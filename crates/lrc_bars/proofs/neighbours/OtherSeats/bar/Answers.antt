@@ -1,8 +1,7 @@
 use Rattle.std.proofs.Common.{◌≡◌, List, length, take, get_or, ap, refl, subst, arith, ◌∙◌}
 use Rattle.std.proofs.lemmas.List.{take_all}
-use Rattle.lrc_code.specs.declared.codes.Code.TheVariants.{Wide}
 use Rattle.lrc_code.specs.declared.numbers.Fragment.{Fragment}
-use Rattle.lrc_code.specs.Codes.{fragments}
+use Rattle.lrc_code.specs.Codes.{all_fragments}
 use Rattle.lrc_slots.specs.Barred.{Barred, joined}
 use Rattle.lrc_slots.specs.BarredNodes.{AreBarredNodes}
 use Rattle.lrc_slots.specs.Tables.{slots_of}
@@ -36,7 +35,7 @@ pub returns : goal.returns
 returns c = λ b are.
     let n = c.args.self.now in
     let i = c.loop-fragment.fragment-index in
-    let whole : take i c.all.result ≡ fragments Wide = ap (take i) c.loop-fragment.invariant.all ∙ take_all i (fragments Wide) (omega arith) in
+    let whole : take i c.all.result ≡ all_fragments = ap (take i) c.loop-fragment.invariant.all ∙ take_all i all_fragments (omega arith) in
     subst (λ (fs : List Fragment). AreBarredNodes (slots_of c.args.table.now).nodes
     (joined b (domains_bar n.domains.now.faults n.domains.now.upgrades n.others.bits n.members.bits fs)) c.loop-fragment.barred_nodes)
     whole (c.loop-fragment.invariant.barred_are b are)

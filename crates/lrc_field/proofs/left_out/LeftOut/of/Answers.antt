@@ -1,7 +1,7 @@
 use Rattle.std.proofs.Common.{◌≡◌, ◌+◌, ap, ◌∙◌, arith}
+use Rattle.lrc_code.specs.Codes.{data_count}
 use Rattle.lrc_code.specs.declared.codes.Class.TheVariants.{A, B, G}
 use Rattle.lrc_code.specs.Losses.{bits_set}
-use Rattle.lrc_field.specs.Stripes.{data_count}
 use Rattle.lrc_field.specs.Weights.{lost_in, first_or}
 use Rattle.lrc_field.proofs.FirstLemmas.{third_found}
 use Rattle.lrc_field.proofs.left_out.LeftOut.of.Goals as goal

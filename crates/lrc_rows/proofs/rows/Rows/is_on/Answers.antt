@@ -1,6 +1,6 @@
 use Rattle.std.proofs.Common.{sym}
 use Rattle.lrc_rows.specs.Listed.{rows_in}
-use Rattle.lrc_rows.proofs.RowsLemmas.{any-on}
+use Rattle.lrc_rows.proofs.TurnLemmas.{any-on}
 use Rattle.lrc_rows.proofs.rows.Rows.is_on.Goals as goal
 
 pub returns : goal.returns

@@ -3,7 +3,8 @@ use Rattle.std.proofs.lemmas.List.{get_or_default}
 use Rattle.lrc_rows.specs.declared.row.Row.{Row}
 use Rattle.lrc_rows.specs.Listed.{rows_in}
 use Rattle.lrc_rows.specs.Kept.{needs_of, is_planed, IsRenewed, IsWithMissing}
-use Rattle.lrc_rows.proofs.RowsLemmas.{planed-kept, needs-work, renewed-code, rank_of_row, rows_in-set, renewed-there, renewed-needs, are_queued-same, renewed-set}
+use Rattle.lrc_rows.proofs.RowsLemmas.{planed-kept, rank_of_row, rows_in-set, are_queued-same}
+use Rattle.lrc_rows.proofs.BecomeLemmas.{needs-work, renewed-code, renewed-there, renewed-needs, renewed-set}
 use Rattle.lrc_rows.proofs.rows.Rows.put_missing.Goals as goal
 
 pub set_planes-requires : goal.set_planes-requires

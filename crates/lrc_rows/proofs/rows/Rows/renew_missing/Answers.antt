@@ -3,7 +3,7 @@ use Rattle.lrc_code.specs.declared.numbers.StripeNo.{StripeNo}
 use Rattle.lrc_ranks.specs.Sets.{has}
 use Rattle.lrc_rows.specs.Listed.{rows_in}
 use Rattle.lrc_rows.specs.Kept.{AreRenewed, IsMissingOn}
-use Rattle.lrc_rows.proofs.RowsLemmas.{missing_on-work}
+use Rattle.lrc_rows.proofs.BecomeLemmas.{missing_on-work}
 use Rattle.lrc_rows.proofs.rows.Rows.renew_missing.Goals as goal
 
 pub returns-in-Some-clause-rows : goal.returns-in-Some-clause-rows

@@ -2,7 +2,7 @@ use Rattle.std.proofs.Common.{arith, refl, ◌∙◌}
 use Rattle.lrc_ranks.specs.Sets.{has}
 use Rattle.lrc_rows.specs.Listed.{rows_in}
 use Rattle.lrc_rows.specs.Kept.{IsMissingOn}
-use Rattle.lrc_rows.proofs.RowsLemmas.{renewed-first, renewed-more, renewed-all}
+use Rattle.lrc_rows.proofs.TurnLemmas.{renewed-first, renewed-more, renewed-all}
 use Rattle.lrc_ranks.proofs.StripeSetLemmas.{has-taken}
 use Rattle.lrc_rows.proofs.rows.Rows.renew_missing_in.Goals as goal
 

@@ -2,7 +2,7 @@ use Rattle.std.proofs.Common.{◌≡◌}
 use Rattle.lrc_ranks.specs.Sets.{has}
 use Rattle.lrc_rows.specs.Listed.{rows_in}
 use Rattle.lrc_rows.specs.Kept.{IsMissingOn}
-use Rattle.lrc_rows.proofs.RowsLemmas.{AreRenewedBut}
+use Rattle.lrc_rows.proofs.TurnLemmas.{AreRenewedBut}
 use Rattle.lrc_ranks.proofs.StripeSetLemmas.{member_count}
 use Rattle.lrc_rows.proofs.rows.Rows.renew_missing_in.Given as goal
 

@@ -1,6 +1,6 @@
 use Rattle.lrc_rows.specs.Listed.{rows_in}
 use Rattle.lrc_rows.specs.Kept.{IsMissingOn, IsWithMissing}
-use Rattle.lrc_rows.proofs.RowsLemmas.{renewed-alike, missing_on-put}
+use Rattle.lrc_rows.proofs.BecomeLemmas.{renewed-alike, missing_on-put}
 use Rattle.lrc_rows.proofs.rows.Rows.renew_missing_of.Goals as goal
 
 pub returns-clause-rows : goal.returns-clause-rows

@@ -6,7 +6,8 @@ use Rattle.lrc_ranks.specs.Sets.{has}
 use Rattle.lrc_rows.specs.NodeStates.{states_in}
 use Rattle.lrc_rows.specs.Listed.{rows_in}
 use Rattle.lrc_rows.specs.Kept.{is_row_on, IsWithLosses, IsToMoveOn}
-use Rattle.lrc_rows.proofs.RowsLemmas.{renewed-first, renewed-one, to_move_on-put, renewed-absent, renewed-all}
+use Rattle.lrc_rows.proofs.BecomeLemmas.{to_move_on-put}
+use Rattle.lrc_rows.proofs.TurnLemmas.{renewed-first, renewed-one, renewed-absent, renewed-all}
 use Rattle.lrc_ranks.proofs.StripeSetLemmas.{has-taken}
 use Rattle.lrc_rows.proofs.rows.Rows.renew_needs_in.Goals as goal
 

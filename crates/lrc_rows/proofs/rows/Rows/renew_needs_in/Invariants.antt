@@ -3,7 +3,7 @@ use Rattle.lrc_ranks.specs.Sets.{has}
 use Rattle.lrc_rows.specs.NodeStates.{states_in}
 use Rattle.lrc_rows.specs.Listed.{rows_in}
 use Rattle.lrc_rows.specs.Kept.{IsToMoveOn}
-use Rattle.lrc_rows.proofs.RowsLemmas.{AreRenewedBut}
+use Rattle.lrc_rows.proofs.TurnLemmas.{AreRenewedBut}
 use Rattle.lrc_ranks.proofs.StripeSetLemmas.{member_count}
 use Rattle.lrc_rows.proofs.rows.Rows.renew_needs_in.Given as goal
 

@@ -4,7 +4,8 @@ use Rattle.lrc_rows.specs.declared.row.Row.{Row}
 use Rattle.lrc_homes.specs.declared.losses.Losses.{Losses}
 use Rattle.lrc_rows.specs.Listed.{RowTable, rows_in}
 use Rattle.lrc_rows.specs.Kept.{row_has_work, needs_of, is_planed, IsRenewed, IsRehomed}
-use Rattle.lrc_rows.proofs.RowsLemmas.{planed-kept, needs-work, renewed-code, rank_of_row, rows_in-set, rehomed-there, present-same, renewed-there, are_queued-set, renewed-set}
+use Rattle.lrc_rows.proofs.RowsLemmas.{planed-kept, rank_of_row, rows_in-set, present-same, are_queued-set}
+use Rattle.lrc_rows.proofs.BecomeLemmas.{needs-work, renewed-code, rehomed-there, renewed-there, renewed-set}
 use Rattle.lrc_rows.proofs.rows.Rows.set_home.Goals as goal
 
 pub set_planes-requires : goal.set_planes-requires

@@ -9,7 +9,7 @@ use Rattle.lrc_ranks.proofs.StripeSetLemmas.{has-taken}
 use Rattle.lrc_rows.specs.declared.row.Row.{Row}
 use Rattle.lrc_rows.specs.Listed.{rows_in}
 use Rattle.lrc_rows.specs.Kept.{is_in_upgrade}
-use Rattle.lrc_rows.proofs.RowsLemmas.{IsTaken, none-upgraded, none-yet, upgraded-more}
+use Rattle.lrc_rows.proofs.TurnLemmas.{IsTaken, none-upgraded, none-yet, upgraded-more}
 use Rattle.lrc_rows.proofs.rows.following.in_upgrade.Goals as goal
 
 bare : (a b : Bool) → b ≡ false → false ≡ (a && b)

@@ -1,7 +1,7 @@
 use Rattle.lrc_rules.specs.declared.reply.Reply.TheVariants.{Granted, Refused}
 use Rattle.lrc_rules.specs.declared.refusal.Refusal.TheVariants as refusal
 use Rattle.lrc_rules.proofs.ChoiceLemmas.{chosen-choice, choice-chosen, none-fitting, none-chosen}
-use Rattle.lrc_rules.proofs.GrantingLemmas.{lease-told, tell-granted, tell-none}
+use Rattle.lrc_rules.proofs.GrantingLemmas.{lease-told, tell-granted, tell-none, tell-unrecoverable}
 use Rattle.lrc_rules.proofs.laws.leases.a_lease_is_granted_where_it_is_owed.Goals as goal
 
 pub returns-clause-granted : goal.returns-clause-granted
@@ -16,4 +16,10 @@ returns-clause-no_node c = λ nodes past st session s f g. (
   λ told. let says =
       lease-told nodes past st session s f (Refused (refusal.NoLawfulNode g)) told in (says.0, says.1, none-fitting nodes st s f says.2),
   λ so. tell-none nodes past st session s f g (so.0, so.1, none-chosen nodes st s f so.2),
+)
+
+pub returns-clause-unrecoverable : goal.returns-clause-unrecoverable
+returns-clause-unrecoverable c = λ nodes past st session s f. (
+  lease-told nodes past st session s f (Refused refusal.Unrecoverable),
+  tell-unrecoverable nodes past st session s f,
 )

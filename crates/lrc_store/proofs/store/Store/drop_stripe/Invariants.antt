@@ -1,5 +1,4 @@
-use Rattle.lrc_code.specs.declared.codes.Code.TheVariants.{Wide}
-use Rattle.lrc_code.specs.Codes.{fragments}
+use Rattle.lrc_code.specs.Codes.{all_fragments}
 use Rattle.lrc_store.specs.Dropping.{unleased}
 use Rattle.lrc_store.proofs.store.Store.drop_stripe.Given as goal
 
@@ -7,4 +6,4 @@ abbrev pub ghost-end_leases : goal.ghost-end_leases
 ghost-end_leases g a = g.st
 
 abbrev pub ghost-free_homes : goal.ghost-free_homes
-ghost-free_homes g a = unleased g.st a.stripe (fragments Wide)
+ghost-free_homes g a = unleased g.st a.stripe all_fragments

@@ -1,9 +1,8 @@
 use Rattle.std.proofs.Common.{◌≡◌, ◌+◌, ℕ, Option, List, take, get_or, refl, sym, ap, ◌∙◌, subst, arith}
 use Rattle.std.proofs.lemmas.List.{take_all}
-use Rattle.lrc_code.specs.declared.codes.Code.TheVariants.{Wide}
 use Rattle.lrc_code.specs.declared.numbers.Fragment.{Fragment}
 use Rattle.lrc_code.specs.declared.numbers.StripeNo.{StripeNo}
-use Rattle.lrc_code.specs.Codes.{fragments}
+use Rattle.lrc_code.specs.Codes.{all_fragments}
 use Rattle.lrc_slots.specs.Slots.{Slots}
 use Rattle.lrc_slots.specs.Tables.{slots_of}
 use Rattle.lrc_topology.specs.declared.seat.Seat.{Seat}
@@ -27,13 +26,13 @@ loop-fragment-init g c = record {
 }
 
 -- the home of the fragment at a place, as it is told while the slot table alone has changed
-home-told : (st : State) (was now : Store) → IsOf st was → (s : StripeNo) → now ≡ record was { table = now.table } → (items : List Fragment) → items ≡ fragments Wide
-    → (i : ℕ) (d : Fragment) (o : Option Seat) → o ≡ (stored_in now.stripes).homes s (get_or items i d).value → homes_of st.homes s (get_or (fragments Wide) i d).value ≡ o
+home-told : (st : State) (was now : Store) → IsOf st was → (s : StripeNo) → now ≡ record was { table = now.table } → (items : List Fragment) → items ≡ all_fragments
+    → (i : ℕ) (d : Fragment) (o : Option Seat) → o ≡ (stored_in now.stripes).homes s (get_or items i d).value → homes_of st.homes s (get_or all_fragments i d).value ≡ o
 home-told st was now kept s rest items all i d o is =
     sym (is
     ∙ (ap (λ (fs : List Fragment). (stored_in now.stripes).homes s (get_or fs i d).value) all
-    ∙ (ap (λ (k : Store). (stored_in k.stripes).homes s (get_or (fragments Wide) i d).value) rest
-    ∙ ap (λ (t : Stored). t.homes s (get_or (fragments Wide) i d).value) kept.stripes_is)))
+    ∙ (ap (λ (k : Store). (stored_in k.stripes).homes s (get_or all_fragments i d).value) rest
+    ∙ ap (λ (t : Stored). t.homes s (get_or all_fragments i d).value) kept.stripes_is)))
 
 pub home-requires : goal.home-requires
 home-requires g c =
@@ -75,5 +74,5 @@ loop-fragment-preserved g c =
 pub returns-clause-table : goal.returns-clause-table
 returns-clause-table g c =
     let i = c.loop-fragment.fragment-index in
-    let whole : take i (fragments Wide) ≡ fragments Wide = take_all i (fragments Wide) (omega arith) in
+    let whole : take i all_fragments ≡ all_fragments = take_all i all_fragments (omega arith) in
     c.loop-fragment.invariant.freed.table_is ∙ ap (λ (fs : List Fragment). kept_table c.args.self.now.topology (homeless g.st c.args.stripe fs)) whole

@@ -1,7 +1,6 @@
 use Rattle.std.proofs.Common.{[], ◌∙◌, ◌&&◌, Bool, not, eqb, List, Option, IfSome, IsSome, is_some, ap, subst, refl}
-use Rattle.lrc_code.specs.declared.codes.Code.TheVariants.{Wide}
 use Rattle.lrc_code.specs.declared.numbers.Fragment.{Fragment}
-use Rattle.lrc_code.specs.Codes.{fragments}
+use Rattle.lrc_code.specs.Codes.{all_fragments}
 use Rattle.lrc_topology.specs.declared.NodeInfo.{NodeInfo}
 use Rattle.lrc_topology.specs.Nodes.{node_at}
 use Rattle.lrc_topology.specs.declared.seat.Seat.{Seat}
@@ -29,5 +28,5 @@ returns c = λ st code kept members.
     (λ g seat is. subst (λ (ns : List NodeInfo). IsSome (node_at ns seat.node)) same
     (subst (λ (o : Option Seat). IfSome o (IsKnown k)) (home g ∙ is) (home-known st k kept s g _ refl)))
     (λ g seat n is found. c.domains.ensures g.value seat n (home g ∙ is) (ap (λ (t : Stored). node_at (infos_in t.nodes) seat.node) kept.stripes_is ∙ (ap (λ (ns : List NodeInfo). node_at ns seat.node) (infos-kept st nodes) ∙ found)))
-    (fragments Wide)
+    all_fragments
     ∙ homes-all nodes st s kept.seated code f []

@@ -1,7 +1,6 @@
 use Rattle.std.proofs.Common.{[], ◌∙◌, ◌&&◌, Bool, not, eqb, List, Option, IfSome, IsSome, is_some, option_map, ap, sym, subst, refl, arith}
-use Rattle.lrc_code.specs.declared.codes.Code.TheVariants.{Wide}
 use Rattle.lrc_code.specs.declared.numbers.Fragment.{Fragment}
-use Rattle.lrc_code.specs.Codes.{fragments}
+use Rattle.lrc_code.specs.Codes.{all_fragments}
 use Rattle.lrc_topology.specs.declared.NodeInfo.{NodeInfo}
 use Rattle.lrc_topology.specs.Nodes.{node_at}
 use Rattle.lrc_topology.specs.declared.seat.Seat.{Seat}
@@ -40,5 +39,5 @@ returns c = λ st code kept members.
     (λ g seat is. subst (λ (ns : List NodeInfo). IsSome (node_at ns seat.node)) same
     (subst (λ (o : Option Seat). IfSome o (IsKnown k)) (lease g ∙ is) (target-known st k kept s g _ refl)))
     (λ g seat n is found. subst (λ (d : HomeDomains). AreDomainsOf nodes (targets_in (leased_in k.leases) s) d) (sym c.index.ensures) (kept.domains_are.each s domains) g.value seat n (lease g ∙ is) found)
-    (fragments Wide)
+    all_fragments
     ∙ targets-all nodes st s kept.seated code f []

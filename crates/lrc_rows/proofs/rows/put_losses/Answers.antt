@@ -1,5 +1,0 @@
-use Rattle.std.proofs.Common.{refl}
-use Rattle.lrc_rows.proofs.rows.put_losses.Goals as goal
-
-pub returns-in-Some : goal.returns-in-Some
-returns-in-Some c = rw c.in-Some.is (_, refl, record { homes = refl; domains = refl; losses = refl })
