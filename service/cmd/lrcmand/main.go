@@ -7,7 +7,7 @@ import (
 	"fmt"
 	"os"
 
-	"lrcman/service/internal/book"
+	"lrcman/service/book"
 	"lrcman/service/internal/ctl"
 	"lrcman/service/internal/logging"
 )

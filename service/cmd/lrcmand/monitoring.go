@@ -4,7 +4,7 @@ import (
 	"context"
 	"time"
 
-	"lrcman/service/internal/book"
+	"lrcman/service/book"
 	"lrcman/service/internal/engine"
 	"lrcman/service/internal/httpapi"
 	"lrcman/service/internal/metrics"

@@ -11,7 +11,7 @@ import (
 
 	"go.etcd.io/etcd/pkg/transport"
 
-	"lrcman/service/internal/book"
+	"lrcman/service/book"
 	"lrcman/service/internal/engine"
 	"lrcman/service/internal/engine/raftlog"
 	"lrcman/service/internal/httpapi"

@@ -8,7 +8,7 @@ import (
 	"os"
 	"strings"
 
-	"lrcman/service/internal/book"
+	"lrcman/service/book"
 	"lrcman/service/internal/engine"
 	"lrcman/service/internal/engine/raftlog"
 	"lrcman/service/internal/httpapi"

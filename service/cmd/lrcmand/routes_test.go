@@ -12,7 +12,7 @@ import (
 	"testing"
 	"time"
 
-	"lrcman/service/internal/book"
+	"lrcman/service/book"
 	"lrcman/service/internal/httpapi"
 	"lrcman/service/internal/logging"
 	"lrcman/service/internal/metrics"

@@ -13,7 +13,7 @@ import (
 	"syscall"
 	"time"
 
-	"lrcman/service/internal/book"
+	"lrcman/service/book"
 	"lrcman/service/internal/disk"
 	"lrcman/service/internal/engine"
 	"lrcman/service/internal/engine/raftlog"

@@ -4,7 +4,7 @@ import (
 	"fmt"
 	"runtime"
 
-	"lrcman/service/internal/book"
+	"lrcman/service/book"
 	"lrcman/service/internal/state"
 )
 

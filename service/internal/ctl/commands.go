@@ -10,8 +10,8 @@ import (
 	"text/tabwriter"
 	"time"
 
+	"lrcman/service/book"
 	"lrcman/service/client"
-	"lrcman/service/internal/book"
 )
 
 // bookPath is a path below a book.

@@ -17,7 +17,7 @@ import (
 	"testing"
 	"time"
 
-	"lrcman/service/internal/book"
+	"lrcman/service/book"
 	"lrcman/service/internal/engine"
 	"lrcman/service/internal/logging"
 	"lrcman/service/internal/openapi"

@@ -5,7 +5,7 @@ import (
 	"net/http"
 	"strconv"
 
-	"lrcman/service/internal/book"
+	"lrcman/service/book"
 	"lrcman/service/internal/replica"
 	"lrcman/service/internal/state"
 )

@@ -103,7 +103,12 @@ func (s *service) fillKeys() {
 		go func() {
 			for i := range next {
 				body := fmt.Sprintf(`{"command":"tick","key":"fill%d"}`, i)
-				if answer, text := s.ask("POST", "/books/p0/call", body); answer.StatusCode != 200 {
+				answer, text := s.ask("POST", "/books/p0/call", body)
+				// (on a busy machine some are not proposed in time, so they are not made)
+				for answer.StatusCode == 503 && strings.Contains(text, `"code":"busy"`) {
+					answer, text = s.ask("POST", "/books/p0/call", body)
+				}
+				if answer.StatusCode != 200 {
 					s.t.Error(text)
 				}
 			}

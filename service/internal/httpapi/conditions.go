@@ -6,7 +6,7 @@ import (
 	"net/http"
 	"strings"
 
-	"lrcman/service/internal/book"
+	"lrcman/service/book"
 	"lrcman/service/internal/state"
 )
 

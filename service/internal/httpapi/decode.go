@@ -14,7 +14,7 @@ import (
 	"sync"
 	"unicode/utf8"
 
-	"lrcman/service/internal/book"
+	"lrcman/service/book"
 	"lrcman/service/internal/engine"
 	"lrcman/service/internal/state"
 )

@@ -5,7 +5,7 @@ import (
 	"fmt"
 	"net/http"
 
-	"lrcman/service/internal/book"
+	"lrcman/service/book"
 	"lrcman/service/internal/disk"
 	"lrcman/service/internal/engine"
 	"lrcman/service/internal/replica"

@@ -6,7 +6,7 @@ import (
 	"runtime"
 	"strconv"
 
-	"lrcman/service/internal/book"
+	"lrcman/service/book"
 	"lrcman/service/internal/engine"
 	"lrcman/service/internal/replica"
 	"lrcman/service/internal/state"

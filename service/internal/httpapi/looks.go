@@ -9,7 +9,7 @@ import (
 	"strconv"
 	"strings"
 
-	"lrcman/service/internal/book"
+	"lrcman/service/book"
 	"lrcman/service/internal/replica"
 	"lrcman/service/internal/state"
 )

@@ -3,7 +3,7 @@ package httpapi
 import (
 	"net/http"
 
-	"lrcman/service/internal/book"
+	"lrcman/service/book"
 	"lrcman/service/internal/state"
 )
 

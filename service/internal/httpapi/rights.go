@@ -15,7 +15,7 @@ import (
 	"strings"
 	"sync"
 
-	"lrcman/service/internal/book"
+	"lrcman/service/book"
 )
 
 // A Role is what a client may do, as a set of rights; or what a request takes, and then one right of it is enough.

@@ -10,7 +10,7 @@ import (
 	"strings"
 	"testing"
 
-	"lrcman/service/internal/book"
+	"lrcman/service/book"
 )
 
 func rightsOf(t *testing.T, lines string) *Rights {

@@ -7,7 +7,7 @@ import (
 	"net/http"
 	"time"
 
-	"lrcman/service/internal/book"
+	"lrcman/service/book"
 	"lrcman/service/internal/state"
 )
 

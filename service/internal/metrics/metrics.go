@@ -18,7 +18,7 @@ import (
 	"github.com/prometheus/client_golang/prometheus/collectors"
 	"github.com/prometheus/client_golang/prometheus/promhttp"
 
-	"lrcman/service/internal/book"
+	"lrcman/service/book"
 	"lrcman/service/internal/engine"
 	"lrcman/service/internal/httpapi"
 	"lrcman/service/internal/survey"

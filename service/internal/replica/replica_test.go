@@ -10,7 +10,7 @@ import (
 	"testing"
 	"time"
 
-	"lrcman/service/internal/book"
+	"lrcman/service/book"
 	"lrcman/service/internal/engine"
 	"lrcman/service/internal/logging"
 	"lrcman/service/internal/state"

@@ -9,7 +9,7 @@ import (
 	"sync"
 	"testing"
 
-	"lrcman/service/internal/book"
+	"lrcman/service/book"
 )
 
 func drawnCommand(line string) book.Command {

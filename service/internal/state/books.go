@@ -4,7 +4,7 @@ import (
 	"fmt"
 	"sync"
 
-	"lrcman/service/internal/book"
+	"lrcman/service/book"
 )
 
 // holding is the lease that a worker was granted.

@@ -6,7 +6,7 @@ import (
 	"strings"
 	"testing"
 
-	"lrcman/service/internal/book"
+	"lrcman/service/book"
 )
 
 // everyItem has an item of each action, with and without what may be left out.

@@ -4,7 +4,7 @@ import (
 	"encoding/binary"
 	"errors"
 
-	"lrcman/service/internal/book"
+	"lrcman/service/book"
 )
 
 // Entries and snapshots are made of fields: numbers of fixed width, little endian, and texts behind their length. So each value

@@ -3,7 +3,7 @@ package state
 import (
 	"fmt"
 
-	"lrcman/service/internal/book"
+	"lrcman/service/book"
 )
 
 // An Action is what an item does.

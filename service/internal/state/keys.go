@@ -3,7 +3,7 @@ package state
 import (
 	"fmt"
 
-	"lrcman/service/internal/book"
+	"lrcman/service/book"
 )
 
 // MostKeys are the keys that a book keeps, and those that the group keeps of books that are made, opened again and removed. The

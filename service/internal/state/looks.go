@@ -5,7 +5,7 @@ import (
 	"fmt"
 	"sort"
 
-	"lrcman/service/internal/book"
+	"lrcman/service/book"
 )
 
 var (

@@ -8,7 +8,7 @@ import (
 	"io"
 	"sort"
 
-	"lrcman/service/internal/book"
+	"lrcman/service/book"
 	"lrcman/service/internal/engine"
 )
 

@@ -8,7 +8,7 @@ import (
 	"strings"
 	"testing"
 
-	"lrcman/service/internal/book"
+	"lrcman/service/book"
 	"lrcman/service/internal/engine"
 )
 

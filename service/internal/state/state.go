@@ -9,7 +9,7 @@ import (
 	"fmt"
 	"sync"
 
-	"lrcman/service/internal/book"
+	"lrcman/service/book"
 )
 
 // The limits that are part of the replicated state: all members have to have the same.

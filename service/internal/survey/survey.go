@@ -9,7 +9,7 @@ import (
 	"strings"
 	"time"
 
-	"lrcman/service/internal/book"
+	"lrcman/service/book"
 	"lrcman/service/internal/state"
 )
 

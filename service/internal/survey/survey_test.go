@@ -6,7 +6,7 @@ import (
 	"testing"
 	"time"
 
-	"lrcman/service/internal/book"
+	"lrcman/service/book"
 	"lrcman/service/internal/survey"
 	"lrcman/service/internal/survey/recorded"
 )

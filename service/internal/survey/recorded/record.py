@@ -40,7 +40,7 @@ class Recording:
     def state(self):
         store = self.store
         rows = {view: [line.split(",") for line in shown.shown(view, store, len(self.entries)).splitlines()[1:]]
-                for view in shown.VIEWS}
+                for view in shown.SERVED}
         counts = {}
         for entry in self.entries:
             cause = entry["command"].split(" ")[0] + " " + entry["reply"].split(" ")[0]

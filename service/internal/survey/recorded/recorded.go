@@ -10,7 +10,7 @@ import (
 	"strings"
 	"sync"
 
-	"lrcman/service/internal/book"
+	"lrcman/service/book"
 	"lrcman/service/internal/state"
 	"lrcman/service/internal/survey"
 )

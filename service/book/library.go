@@ -1,7 +1,11 @@
 // Package book is the proved book of lrc_embed for Go.
 //
 // Everything that a command does is decided by the library. This package checks layouts, carries numbers over and writes
-// words. CGO_CFLAGS names the folder of lrc_embed.h and CGO_LDFLAGS the library: service/build sets both.
+// words. It takes the standard library alone. With the build tag lrc_embed_installed pkg-config finds the library; without it
+// CGO_CFLAGS names the folder of lrc_embed.h and CGO_LDFLAGS the library, which service/build sets both.
+//
+// docs/EMBEDDING.md says how a store keeps its lock and its log around a book: the Entry of each Call goes to the log before the
+// store acts on its reply, and Replay makes them again after a restart.
 package book
 
 /*
@@ -274,6 +278,20 @@ func (b *Book) Peek(session uint8, command Command) (Reply, error) {
 	status := C.lrc_embed_peek(b.handle, C.uint8_t(session), (*C.lrc_command)(unsafe.Pointer(&command)),
 		(*C.lrc_reply)(unsafe.Pointer(&reply)))
 	return reply, faultOf(status)
+}
+
+// Replay makes the commands of saved entries after those that the book has, and compares each reply. A fault's detail is the
+// position of the entry where it stopped; the book is closed then, and only Close may follow.
+func (b *Book) Replay(entries []Entry) error {
+	position := C.size_t(0)
+	var first *C.lrc_entry
+	if len(entries) > 0 {
+		first = (*C.lrc_entry)(unsafe.Pointer(&entries[0]))
+	}
+	if status := C.lrc_embed_replay(b.handle, first, C.size_t(len(entries)), &position); status != C.LRC_DONE {
+		return &Fault{Status: uint32(status), Detail: int(position)}
+	}
+	return nil
 }
 
 // Before is the number of entries that were made before those that the book still has.
