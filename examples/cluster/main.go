@@ -49,6 +49,7 @@ type options struct {
 	cluster *Cluster
 	folder  string
 	number  int
+	limit   int
 }
 
 // parts are what the first word names.
@@ -61,6 +62,7 @@ func run(part func(options) error, words []string) error {
 	file := set.String("cluster", "cluster.json", "the file that describes the cluster")
 	folder := set.String("folder", "", "the folder of a node or of the gateway")
 	number := set.Int("number", 0, "the number of a node or of a worker")
+	limit := set.Int("targets", 0, "of a worker: the most leases with their target on one node, also of other workers; 0: any number")
 	if err := set.Parse(words); err != nil {
 		return err
 	}
@@ -68,7 +70,10 @@ func run(part func(options) error, words []string) error {
 	if err != nil {
 		return err
 	}
-	return part(options{cluster, *folder, *number})
+	if *limit < 0 {
+		return fmt.Errorf("-targets is below 0")
+	}
+	return part(options{cluster, *folder, *number, *limit})
 }
 
 func main() {

@@ -21,6 +21,9 @@ type fakeBook struct {
 	replies map[string][]string // by the first word of a command; the last one again and again
 	recipes map[string]string   // by the missing fragments of the question; one that is not there is undetermined
 	isSafe  bool
+	work    string            // rows of the table
+	peeks   map[string]string // by command; one that is not there is refused
+	targets []int             // of node 8, of each question; the last one again and again
 	asked   []string
 	faults  []string // of calls, each before it is replied to: a status and a code
 	keys    []string // key and since of each call as it came
@@ -41,6 +44,21 @@ func (f *fakeBook) ServeHTTP(w http.ResponseWriter, r *http.Request) {
 		fmt.Fprint(w, `{"status":409,"error":"no recipe","code":"undetermined"}`)
 	case strings.HasSuffix(path, "/may-lose"):
 		fmt.Fprintf(w, `{"safe":%v}`, f.isSafe)
+	case strings.HasSuffix(path, "/show/work"):
+		fmt.Fprintf(w, `{"rows":[%s]}`, f.work)
+	case strings.HasSuffix(path, "/show/nodes"):
+		fmt.Fprintf(w, `{"rows":[{"node":7,"targets":0},{"node":8,"targets":%d}]}`, f.targets[0])
+		if len(f.targets) > 1 {
+			f.targets = f.targets[1:]
+		}
+	case strings.HasSuffix(path, "/peek"):
+		command := r.URL.Query().Get("command")
+		f.asked = append(f.asked, "peek "+command)
+		if f.peeks[command] == "" {
+			fmt.Fprint(w, refused(noLawfulNode))
+			return
+		}
+		fmt.Fprint(w, f.peeks[command])
 	case path == "/status":
 		fmt.Fprint(w, `{"applied":7}`)
 	case path == "/matrix":
@@ -143,7 +161,7 @@ func TestAWorkerReportsWhatItWrote(t *testing.T) {
 	} {
 		fake := &fakeBook{replies: map[string][]string{"done": it.done, "abandon": {ended}}, recipes: it.recipes}
 		book, nodes := newTest(t, fake)
-		w := worker{"w", book, nodes}
+		w := worker{"w", book, nodes, 0}
 		done, err := w.repair(lease(it.target, 2), nil)
 		text, _ := nodes.Read(8, 1, 3)
 		isRight := it.want == 0 && text == nil || it.want != 0 && bytes.Equal(text, full(it.want))
@@ -159,7 +177,7 @@ func TestALateWorkerLeavesWhatIsNewer(t *testing.T) {
 	if err := nodes.Write(8, Name{1, 3, 5}, full(9)); err != nil {
 		t.Fatal(err)
 	}
-	done, err := (&worker{"w", book, nodes}).repair(lease(8, 4), nil)
+	done, err := (&worker{"w", book, nodes, 0}).repair(lease(8, 4), nil)
 	if text, _ := nodes.Read(8, 1, 3); !bytes.Equal(text, full(9)) || done.isDone || err != nil || len(fake.asked) != 1 {
 		t.Errorf("%.3v %+v %v %q", text, done, err, fake.asked)
 	}
@@ -181,7 +199,7 @@ func TestAReportThatNobodyTellsOf(t *testing.T) {
 	} {
 		fake := &fakeBook{replies: map[string][]string{"done": {ended}}, recipes: map[string]string{"": source(0, 1)}, faults: it.faults}
 		book, nodes := newTest(t, fake)
-		done, err := (&worker{"w", book, nodes}).repair(lease(8, 4), nil)
+		done, err := (&worker{"w", book, nodes, 0}).repair(lease(8, 4), nil)
 		var forgotten *client.KeyForgotten
 		if errors.As(err, &forgotten) != strings.HasPrefix(it.name, "may be made") || done.isDone != it.isDone {
 			t.Errorf("%s: %+v %v", it.name, done, err)
@@ -218,6 +236,52 @@ func TestACommandGoesOnByItsKey(t *testing.T) {
 		if key != fake.keys[0] {
 			t.Errorf("keys %q", fake.keys)
 			break
+		}
+	}
+}
+
+// granted is the reply that leases a fragment of stripe 1.
+func granted(fragment, node int) string {
+	return fmt.Sprintf(`{"reply":"granted","kind":"granted","stripe":1,"fragment":%d,"target":"%d:0","epoch":1,"repair":"move"}`,
+		fragment, node)
+}
+
+func TestAWorkerKeepsToTheLimit(t *testing.T) {
+	row := func(fragment int, standing string) string {
+		return fmt.Sprintf(`{"stripe":1,"fragment":%d,"kind":"move","standing":"%s"}`, fragment, standing)
+	}
+	work := row(2, "leased") + "," + row(3, "open") + "," + row(4, "open") + "," + row(5, "no_node")
+	both := map[string]string{"lease 1 3": granted(3, 8), "lease 1 4": granted(4, 7)}
+	for _, it := range []struct {
+		name    string
+		limit   int
+		work    string
+		peeks   map[string]string
+		targets []int
+		lease   string
+		asked   []string
+		want    int // the fragment; 0: none
+	}{
+		{"any number", 0, work, map[string]string{"next": granted(3, 8)}, []int{9}, refused(101), []string{"peek next", "next"}, 3},
+		{"well", 2, work, both, []int{1, 2}, granted(3, 8), []string{"peek lease 1 3", "lease 1 3"}, 3},
+		{"the first target has enough", 2, work, both, []int{2, 2}, granted(4, 7),
+			[]string{"peek lease 1 3", "peek lease 1 4", "lease 1 4"}, 4},
+		{"the first one has no seat", 2, work, map[string]string{"lease 1 4": granted(4, 7)}, []int{0}, granted(4, 7),
+			[]string{"peek lease 1 3", "peek lease 1 4", "lease 1 4"}, 4},
+		{"another worker was first", 2, work, both, []int{1, 2}, refused(110), []string{"peek lease 1 3", "lease 1 3"}, 0},
+		{"another worker came between", 2, work, both, []int{1, 3}, granted(3, 8),
+			[]string{"peek lease 1 3", "lease 1 3", "abandon 1 3 1"}, 0},
+		{"the target is another one then", 2, work, both, []int{1, 3}, granted(3, 7), []string{"peek lease 1 3", "lease 1 3"}, 3},
+		{"all have enough", 1, row(3, "open"), both, []int{1}, refused(101), []string{"peek lease 1 3"}, 0},
+		{"nothing to do", 1, "", both, []int{0}, refused(101), nil, 0},
+	} {
+		fake := &fakeBook{replies: map[string][]string{"lease": {it.lease}, "next": {granted(3, 8)}, "abandon": {ended}},
+			work: it.work, peeks: it.peeks, targets: it.targets}
+		book, nodes := newTest(t, fake)
+		found, err := (&worker{"w", book, nodes, it.limit}).next()
+		isRight := found == nil && it.want == 0 || found != nil && int(found.Fragment) == it.want
+		if !isRight || err != nil || !reflect.DeepEqual(fake.asked, it.asked) {
+			t.Errorf("%s: %+v %v, asked %q", it.name, found, err, fake.asked)
 		}
 	}
 }

@@ -17,6 +17,7 @@ type worker struct {
 	name  string
 	book  *Book
 	nodes *Nodes
+	limit int // the most leases with their target on one node, also of other workers; 0: any number
 }
 
 // A result is what became of a lease.
@@ -76,9 +77,17 @@ func (w *worker) report(lease *client.Grant, name Name) (result, error) {
 	}
 }
 
+// next asks for a lease.
+func (w *worker) next() (*client.Grant, error) {
+	if w.limit > 0 {
+		return w.book.NextWithin(w.name, w.limit)
+	}
+	return w.book.Next(w.name)
+}
+
 // turn works on one lease, and tells whether there was one.
 func (w *worker) turn() (bool, error) {
-	lease, err := w.book.Next(w.name)
+	lease, err := w.next()
 	if err != nil || lease == nil {
 		return false, err
 	}
@@ -93,7 +102,7 @@ func runWorker(given options) error {
 	if err != nil {
 		return err
 	}
-	w := &worker{fmt.Sprintf("worker-%d", given.number), book, newNodes(given.cluster, limitOfNodes)}
+	w := &worker{fmt.Sprintf("worker-%d", given.number), book, newNodes(given.cluster, limitOfNodes), given.limit}
 	for {
 		isDone, err := w.turn()
 		if err != nil {

@@ -1,16 +1,15 @@
 #!/usr/bin/env python3
 """The late worker of late_worker.c from Python.
 
-Usage: late_worker.py LIBRARY, where LIBRARY is the liblrc_embed.so that `build` makes."""
-import ctypes
+Usage: late_worker.py [LIBRARY], where LIBRARY is the liblrc_embed.so that `build` makes; by default that which is installed."""
 import sys
 
 sys.dont_write_bytecode = True
-from lrc_embed import Book, Command, CommandKind, Entry, Fault, OtherVersion, ReplyKind
+from lrc_embed import Book, Command, CommandKind, Entry, Fault, OtherVersion, ReplyKind, load
 
 
-def main(library):
-    library = ctypes.CDLL(library)
+def main(path=None):
+    library = load(path)
     nodes = "".join(f"[[node]]\nnumber = {i}\nfault = {i}\nupgrade = {i % 10}\nslots = 4\n" for i in range(20))
     of_fragment = {"stripe": 1, "fragment": 3}
     script = [

@@ -5,8 +5,9 @@ from ctypes import c_bool, c_size_t, c_uint8, c_uint16, c_uint32, c_uint64, c_vo
 from enum import IntEnum
 from operator import index as whole
 
-VERSION, RULES_VERSION, STRIPES, FRAGMENTS, NARROW_FRAGMENTS, SESSIONS, HISTORY_LIMIT = 4, 1, 4096, 16, 10, 8, 1_000_000
+VERSION, RULES_VERSION, STRIPES, FRAGMENTS, NARROW_FRAGMENTS, SESSIONS, HISTORY_LIMIT = 5, 1, 4096, 16, 10, 8, 1_000_000
 NODES, SLOTS = 512, 256
+IMAGE_ROOM = 1 << 20  # room for the image of a store of 4,096 stripes, but for a few: to ask how much it needs costs as much as it does
 
 
 class Status(IntEnum):
@@ -19,6 +20,10 @@ class Cause(IntEnum):
     UNKNOWN_DOMAIN, TOO_MANY_ENTRIES, TOO_MANY_TICKS, OUT_OF_ORDER, SAYS_NOTHING, UNKNOWN_NODE = range(1, 7)
     GONE_AND_DOWN, UNKNOWN_FRAGMENT, UNKNOWN_SLOT, NODE_GONE, SEAT_TAKEN, NOT_LAWFUL = range(7, 13)
     TOO_MANY_GRANTS, UNKNOWN_STRIPE, NEVER_GRANTED, WRONG_EXPIRY = range(13, 17)
+
+
+class LineCause(IntEnum):
+    UNKNOWN_WORD, WORD_COUNT, NOT_A_NUMBER, OUT_OF_RANGE, TOO_LONG = range(1, 6)
 
 
 class CommandKind(IntEnum):
@@ -56,6 +61,10 @@ class Outage(IntEnum):
     STOP, LOSE = range(1, 3)
 
 
+class View(IntEnum):
+    STATUS, STRIPES, NODES, LEASES, WORK, FRAGMENTS, DOMAINS_FAULT, DOMAINS_UPGRADE, HEALTH = range(1, 10)
+
+
 # The refusals that have a detail.
 DETAILED = {Refusal.NO_LAWFUL_NODE, Refusal.UPGRADE_RUNNING, Refusal.WOULD_LOSE, Refusal.ALREADY_LEASED,
             Refusal.NOT_HOLDER, Refusal.TARGET_OFFLINE, Refusal.NOT_EMPTY}
@@ -71,7 +80,7 @@ RANGES = {"session": (1, SESSIONS), "kind": (1, len(CommandKind)), "stripe": (0,
           "fragment": (0, FRAGMENTS - 1), "node": (0, 2**16 - 1), "domain": (0, 2**8 - 1), "epoch": (0, 2**32 - 1),
           "index": (0, 2**64 - 1), "place": (0, 2**64 - 1), "outage": (1, len(Outage)),
           "code": (1, len(Code)), "set of fragments": (0, 2**FRAGMENTS - 1),
-          "status number": (0, 2**32 - 1), "reply number": (0, 2**8 - 1), "refusal number": (0, 2**8 - 1)}
+          "number of a word": (0, 2**8 - 1), "view": (1, len(View))}
 
 
 def within(name, number):
@@ -226,12 +235,50 @@ class Fault(Exception):
         self.cause = Cause(cause) if status == Status.INVALID_IMAGE else None
 
 
-def name_of(library, table, number):
-    """The word for a number: of a `status`, of the kind of a `reply`, or of a `refusal`. None if it has none."""
-    text, length = (c_uint8 * 24)(), c_size_t()
-    call, number = getattr(library, f"lrc_embed_{table}_name"), within(f"{table} number", number)
-    status = (call((c_uint32 if table == "status" else c_uint8)(number), text, c_size_t(len(text)), ctypes.byref(length)))
-    return bytes(text[:length.value]).decode() if status == Status.DONE else None
+def text_by(write, room=256):
+    """The status of a call and the text that it writes. It is given a buffer, its length, and where the length of the text goes."""
+    while True:
+        text, length = (c_uint8 * room)(), c_size_t()
+        status = Status(write(text, c_size_t(room), ctypes.byref(length)))
+        if status != Status.SHORT:
+            return status, ctypes.string_at(text, length.value).decode() if status == Status.DONE else None
+        room = length.value
+
+
+# The words for numbers, and the type of the number of each.
+NAMES = {"status_name": c_uint32, "reply_name": c_uint8, "refusal_name": c_uint8, "level_name": c_uint8, "mode_name": c_uint8,
+         "code_name": c_uint8, "repair_name": c_uint8, "line_words": c_uint32, "cause_words": c_uint32, "nodes_words": c_uint32}
+
+
+def words_of(library, table, number):
+    """The words that one of NAMES has for a number below 256. None if it has none."""
+    number = NAMES[table](within("number of a word", number))
+    return text_by(lambda *to: getattr(library, f"lrc_embed_{table}")(number, *to))[1]
+
+
+class BadLine(ValueError):
+    """A line that no script may have: its `cause`, and the words for it."""
+
+    def __init__(self, library, cause):
+        super().__init__(words_of(library, "line_words", cause))
+        self.cause = LineCause(cause)
+
+
+def read_command(library, line):
+    """The command of a line of a script, which may have its end. None if the line is empty or a comment; else a BadLine."""
+    text, command, cause = line.removesuffix("\n").encode(), Command(), c_uint32()
+    status = library.lrc_embed_read_command(text, c_size_t(len(text)), ctypes.byref(command), ctypes.byref(cause))
+    if status == Status.BAD_LINE:
+        raise BadLine(library, cause.value)
+    return command if status == Status.DONE else None
+
+
+def command_line(library, command):
+    """The line of a command in a script, without its end."""
+    status, line = text_by(lambda *to: library.lrc_embed_command_line(ctypes.byref(command), *to))
+    if status != Status.DONE:
+        raise Fault("command_line", status)
+    return line
 
 
 def recipe_of(library, code, missing, fragment):
@@ -285,6 +332,11 @@ def rebuild(library, recipe, fragments):
 
 class OtherVersion(RuntimeError):
     """The library is not the one that this module is for."""
+
+
+def load(path=None):
+    """The shared library of a path; without one that of this module's version, as the system's loader finds it by its name."""
+    return ctypes.CDLL(path or f"liblrc_embed.so.{VERSION}")
 
 
 def expect_version(library):
@@ -359,6 +411,10 @@ class Book:
     def call(self, session, command):
         return self.result_of("call", Reply(), c_uint8(within("session", session)), ctypes.byref(command))
 
+    def call_entry(self, session, command):
+        """Makes a call, and returns its entry."""
+        return self.result_of("call_entry", Entry(), c_uint8(within("session", session)), ctypes.byref(command))
+
     def call_at(self, place, session, command):
         """The same, if the store has made `place` entries so far; else a fault, with the status MOVED."""
         numbers = c_uint64(within("place", place)), c_uint8(within("session", session))
@@ -367,6 +423,10 @@ class Book:
     def peek(self, session, command):
         """The reply that a call would get now. The book stays as it is."""
         return self.result_of("peek", Reply(), c_uint8(within("session", session)), ctypes.byref(command))
+
+    def peek_entry(self, session, command):
+        """The entry that a call would add now. The book stays as it is."""
+        return self.result_of("peek_entry", Entry(), c_uint8(within("session", session)), ctypes.byref(command))
 
     def homes(self, stripe):
         return self.result_of("homes", Homes(), c_uint16(within("stripe", stripe)))
@@ -475,15 +535,33 @@ class Book:
 
     def image(self):
         """The text of the image of the state, in which a book can begin."""
-        text, length = (c_uint8 * 0)(), c_size_t()
-        while True:
-            try:
-                self.done("image", text, c_size_t(len(text)), ctypes.byref(length))
-                return bytes(text[:length.value]).decode()
-            except Fault as fault:
-                if fault.status != Status.SHORT:
-                    raise
-                text = (c_uint8 * length.value)()
+        return self.text("image", room=IMAGE_ROOM)
+
+    def text(self, name, *given, more=(), room=65536):
+        """The text that a call writes."""
+        status, text = text_by(lambda *to: self.status_of(name, *given, *to, *more), room)
+        if status != Status.DONE:
+            raise Fault(name, status)
+        return text
+
+    def show(self, view):
+        """A table of the book, as `lrcman show` prints it."""
+        return self.text("show", c_uint8(within("view", view)))
+
+    def forecast_table(self, outage, nodes):
+        """The table of a forecast, as `lrcman may-stop` or `may-lose` prints it, and whether no stripe is harmed."""
+        is_safe, numbers = c_uint8(), (c_uint16 * len(nodes))(*(within("node", node) for node in nodes))
+        given = c_uint8(within("outage", outage)), numbers, c_size_t(len(nodes))
+        return self.text("forecast_table", *given, more=(ctypes.byref(is_safe),)), is_safe.value == 1
+
+    def reply_line(self, index):
+        """The line that `lrcman run` prints of the entry at an index; None if there is no such entry."""
+        try:
+            return self.text("reply_line", c_size_t(within("index", index)), room=256)
+        except Fault as fault:
+            if fault.status != Status.UNKNOWN:
+                raise
+            return None
 
     def entry(self, index):
         return self.result_of("entry", Entry(), c_size_t(within("index", index)))

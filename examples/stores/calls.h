@@ -53,16 +53,52 @@ inline lrc_command report_of(const lrc_lease &lease) {
     return command;
 }
 
+// The command of a line as docs/RULES.md has it, `down 7` say; else the words for why it is none.
+inline lrc_command read_command(const std::string &line) {
+    lrc_command command{};
+    std::uint32_t cause = 0;
+    std::uint8_t words[80];
+    std::size_t length = 0;
+    auto status = lrc_embed_read_command(reinterpret_cast<const std::uint8_t *>(line.data()), line.size(), &command, &cause);
+    if (status == LRC_DONE) return command;
+    if (status != LRC_BAD_LINE) throw std::invalid_argument("the line has no command");
+    expect_done("words", lrc_embed_line_words(cause, words, sizeof words, &length));
+    throw std::invalid_argument(std::string(words, words + length));
+}
+
 // The text of one node of the list.
 inline std::string node_text(std::size_t number, std::size_t fault, std::size_t upgrade, std::size_t slots) {
     return "[[node]]\nnumber = " + std::to_string(number) + "\nfault = " + std::to_string(fault) +
            "\nupgrade = " + std::to_string(upgrade) + "\nslots = " + std::to_string(slots) + "\n";
 }
 
+inline const std::uint8_t *bytes_of(const std::string &text) { return reinterpret_cast<const std::uint8_t *>(text.data()); }
 inline void open_book(lrc_handle *handle, const std::string &nodes) {
     std::size_t detail = 0;
-    auto text = reinterpret_cast<const std::uint8_t *>(nodes.data());
-    expect_done("open", lrc_embed_open(handle, text, nodes.size(), &detail));
+    expect_done("open", lrc_embed_open(handle, bytes_of(nodes), nodes.size(), &detail));
+}
+// The same, where the book begins in an image.
+inline void open_book(lrc_handle *handle, const std::string &nodes, const std::string &image) {
+    std::size_t detail = 0;
+    std::uint32_t cause = 0;
+    expect_done("open_image", lrc_embed_open_image(handle, bytes_of(nodes), nodes.size(), bytes_of(image), image.size(), &detail,
+                                                   &cause));
+}
+// The image of the book; nothing if there is none now, since memory is short, say, and then the log stays as it is. The room has to
+// do for the next one too: where there is too little, the image is made twice.
+inline std::string image_of(lrc_handle *handle) {
+    thread_local std::string room(1 << 16, 0);
+    for (;;) {
+        std::size_t length = 0;
+        auto text = reinterpret_cast<std::uint8_t *>(room.data());
+        auto status = lrc_embed_image(handle, text, room.size(), &length);
+        if (status == LRC_OUT_OF_MEMORY || status == LRC_FULL) return {};
+        if (status != LRC_SHORT) {
+            expect_done("image", status);
+            return room.substr(0, length);
+        }
+        room.resize(length + length / 4);
+    }
 }
 inline lrc_reply call_book(lrc_handle *handle, std::uint8_t session, const lrc_command &command) {
     lrc_reply reply{};

@@ -16,7 +16,10 @@ class Book {
   public:
     Book(std::uint32_t number, const std::string &nodes, std::size_t node_count, Log &log)
         : number(number), node_count(node_count) {
-        open_book(&handle, nodes);
+        auto image = log.newest_image(number);
+        if (image.text.empty()) open_book(&handle, nodes);
+        else open_book(&handle, nodes, image.text);
+        made = image_at = image.number;
         for (;;) {
             auto entries = log.entries_after(number, made);
             if (entries.empty()) break;
@@ -28,7 +31,7 @@ class Book {
     }
     Book(Book &&other) noexcept
         : number(other.number), handle(std::exchange(other.handle, LRC_CLOSED)), node_count(other.node_count),
-          made(other.made) {}
+          made(other.made), image_at(other.image_at) {}
     ~Book() { lrc_embed_close(&handle); }
 
     // Makes a call, and puts its record into the batch. The reply may be seen once the batch is durable.
@@ -37,6 +40,14 @@ class Book {
         batch.push_back({number, ++made, last_entry(&handle)});
         forget_in_time(&handle);
         return reply;
+    }
+    // Cuts the log by an image if there is none of the last so many entries, all of which are durable.
+    void cut_in_time(std::uint64_t entries_an_image, Log &log) {
+        if (made - image_at < entries_an_image) return;
+        Image image{made, image_of(&handle)};
+        if (image.text.empty()) return;
+        log.cut(number, image, image_at);
+        image_at = made;
     }
     lrc_reply peek(std::uint8_t session, const lrc_command &command) { return peek_book(&handle, session, command); }
     // The stripe that is nearest to loss, if one is at risk.
@@ -86,7 +97,7 @@ class Book {
 
     lrc_handle handle = LRC_CLOSED;
     const std::size_t node_count;
-    std::uint64_t made = 0; // entries
+    std::uint64_t made = 0, image_at = 0; // entries, and how many the last image is after
     std::size_t failures = 0;
     std::array<std::optional<lrc_lease>, WORKERS> leases{};
 };

@@ -1,4 +1,5 @@
-// The log of many books: one table of PostgreSQL, to which a batch of entries of several books is appended at a time.
+// The log of many books: one table of PostgreSQL, to which a batch of entries of several books is appended at a time; and the
+// images by which it is cut.
 #ifndef LOG_H
 #define LOG_H
 
@@ -17,6 +18,12 @@ struct Record {
     std::uint32_t book;
     std::uint64_t number;
     lrc_entry entry;
+};
+
+// The image of a book after so many entries; without a text, the book that has made none.
+struct Image {
+    std::uint64_t number = 0;
+    std::string text;
 };
 
 // What PostgreSQL returns for one command.
@@ -59,6 +66,8 @@ class Log {
         execute("CREATE TABLE IF NOT EXISTS book (book int8 PRIMARY KEY, nodes text NOT NULL, rules int8 NOT NULL)");
         execute("CREATE TABLE IF NOT EXISTS log (book int8, number int8, entry bytea NOT NULL CHECK (length(entry) = 128),"
                 " checksum int8 NOT NULL, PRIMARY KEY (book, number))");
+        execute("CREATE TABLE IF NOT EXISTS image (book int8, number int8, text text NOT NULL, checksum int8 NOT NULL,"
+                " PRIMARY KEY (book, number))");
         execute("CREATE TABLE IF NOT EXISTS upgrade (domain int8 PRIMARY KEY, has_begun boolean NOT NULL)");
     }
     // Takes a book for this connection, once no other one has it. Returns the text of its nodes: that which it had before,
@@ -88,6 +97,26 @@ class Log {
                                          " is missing or damaged");
         }
         return entries;
+    }
+    // The newest image of a book that is whole.
+    Image newest_image(std::uint32_t book) {
+        Rows rows(send("SELECT number, text, checksum FROM image WHERE book = $1 ORDER BY number DESC", {std::to_string(book)}, 1));
+        if (rows.status() != PGRES_TUPLES_OK) fail("select");
+        for (int row = 0; row < rows.count(); row++) {
+            Image image{rows.number(row, 0), rows.text(row, 1)};
+            if (rows.number(row, 2) == checksum_of(image.text.data(), image.text.size())) return image;
+        }
+        return {};
+    }
+    // Cuts the log of a book at its last record, by the image there. The image before is kept, and the log from there on. It is
+    // one command: a crash leaves all of it or nothing.
+    void cut(std::uint32_t book, const Image &image, std::uint64_t before) {
+        execute("WITH made AS (INSERT INTO image VALUES ($1, $2, $3, $4) ON CONFLICT (book, number) DO UPDATE"
+                " SET text = excluded.text, checksum = excluded.checksum),"
+                " older AS (DELETE FROM image WHERE book = $1 AND number < $5)"
+                " DELETE FROM log WHERE book = $1 AND number <= $5",
+                {std::to_string(book), std::to_string(image.number), image.text,
+                 std::to_string(checksum_of(image.text.data(), image.text.size())), std::to_string(before)});
     }
     // Appends all records or none of them. Once it returns, they are durable.
     void append(const std::vector<Record> &records) {

@@ -1,6 +1,7 @@
 // Runs many books over one cluster, in several processes, each with some of the books. This one is the coordinator.
 //
-// Usage: books CONNECTION BOOKS NODES PROCESSES, where CONNECTION is as libpq takes it
+// Usage: books CONNECTION BOOKS NODES PROCESSES [ENTRIES], where CONNECTION is as libpq takes it. The log of a book is cut by an
+// image after each ENTRIES entries (100,000).
 //
 // It makes the tables, or goes on with what is there, and prints `ready`. Then it answers each line of its input:
 //   fill STRIPES        places the stripes from 0 on in each book
@@ -20,10 +21,6 @@
 #include <sstream>
 
 namespace {
-
-const std::map<std::string, lrc_command_kind> NODE_COMMANDS = {
-    {"fail", LRC_FAIL},       {"down", LRC_DOWN},     {"up", LRC_UP},    {"drain", LRC_DRAIN},
-    {"undrain", LRC_UNDRAIN}, {"retire", LRC_RETIRE}, {"join", LRC_JOIN}};
 
 std::string text_of(const lrc_reply &reply) {
     if (reply.kind == LRC_CHANGED) return "changed";
@@ -61,8 +58,10 @@ class Coordinator {
         double number = 0;
         if (word == "book") {
             std::uint32_t book = 0;
-            words >> book >> word >> number;
-            print_replies(ask(Request::CALL, command(word, number), book));
+            std::string rest;
+            words >> book >> std::ws;
+            std::getline(words, rest);
+            print_replies(ask(Request::CALL, command(rest), book));
             return;
         }
         words >> number;
@@ -73,16 +72,16 @@ class Coordinator {
         else if (word == "ask") may_begin(domain);
         else if (word == "begin") begin(domain);
         else if (word == "end") end(domain);
-        else print_replies(ask(Request::CALL, command(word, number)));
+        else print_replies(ask(Request::CALL, command(line)));
     }
 
   private:
     static void say(const std::string &line) { std::cout << line << std::endl; }
-    static lrc_command command(const std::string &word, double number) {
-        if (word == "upgrade") return of_domain(LRC_UPGRADE, static_cast<std::uint8_t>(number));
-        if (word == "upgraded") return of_domain(LRC_UPGRADED, static_cast<std::uint8_t>(number));
-        if (!NODE_COMMANDS.count(word)) throw std::invalid_argument("there is no command " + word);
-        return of_node(NODE_COMMANDS.at(word), static_cast<std::uint16_t>(number));
+    // The command of a line, which names a node or an upgrade domain: these are the same in all books.
+    static lrc_command command(const std::string &line) {
+        auto command = read_command(line);
+        if (command.kind < LRC_FAIL || command.kind > LRC_UPGRADED) throw std::invalid_argument("this is not of all books: " + line);
+        return command;
     }
     void start(const std::string &words, std::size_t first, std::size_t step) {
         int ends[2];
@@ -190,10 +189,11 @@ class Coordinator {
 } // namespace
 
 int main(int count, char **words) {
-    if (count != 5) return std::fprintf(stderr, "usage: books CONNECTION BOOKS NODES PROCESSES\n"), 2;
+    if (count < 5 || count > 6) return std::fprintf(stderr, "usage: books CONNECTION BOOKS NODES PROCESSES [ENTRIES]\n"), 2;
     try {
         expect_version();
-        Coordinator coordinator(words[1], {std::stoul(words[2]), std::stoul(words[3])}, std::stoul(words[4]));
+        const Cluster cluster{std::stoul(words[2]), std::stoul(words[3]), count > 5 ? std::stoull(words[5]) : 100'000};
+        Coordinator coordinator(words[1], cluster, std::stoul(words[4]));
         std::cout << "ready" << std::endl;
         for (std::string line; std::getline(std::cin, line);) {
             try {

@@ -29,9 +29,10 @@ struct Answer {
     std::uint64_t told; // of WORK: how many replies were told; the first book of a process has them all
 };
 
-// The cluster: so many nodes, each with its slots shared out among so many books.
+// The cluster: so many nodes, each with its slots shared out among so many books, whose logs are cut after so many entries.
 struct Cluster {
     std::size_t books, nodes;
+    std::uint64_t entries_an_image;
     static constexpr std::size_t SLOTS = 10240, MOST_SLOTS = 256, FAULT_DOMAINS = 32, UPGRADE_DOMAINS = 16;
     // The nodes of one book, with its share of their slots.
     std::string nodes_of_book() const {
@@ -47,7 +48,7 @@ struct Cluster {
 class Process {
   public:
     Process(const std::string &words, const Cluster &cluster, std::size_t first, std::size_t step, int socket)
-        : socket(socket), log(words) {
+        : socket(socket), entries_an_image(cluster.entries_an_image), log(words) {
         for (auto number = first; number < cluster.books; number += step) {
             auto book = static_cast<std::uint32_t>(number);
             books.emplace_back(book, log.take(book, cluster.nodes_of_book()), cluster.nodes, log);
@@ -111,9 +112,11 @@ class Process {
     void commit() {
         log.append(batch);
         batch.clear();
+        for (auto &book : books) book.cut_in_time(entries_an_image, log);
     }
 
     const int socket;
+    const std::uint64_t entries_an_image;
     Log log;
     std::vector<Book> books;
     std::vector<Record> batch; // made, and not yet durable

@@ -2,7 +2,9 @@
 
 Parameters and results are in the binary format: a whole number is an int8, bytes are a bytea, text is UTF-8."""
 import ctypes
+import select
 import struct
+import time
 from ctypes import POINTER, c_char_p, c_int, c_uint, c_void_p
 
 INT8, BYTEA, TEXT = 20, 17, 25  # the types of parameters, by their numbers in PostgreSQL
@@ -16,8 +18,10 @@ for name, result, given in [
         ("PQntuples", c_int, [c_void_p]), ("PQnfields", c_int, [c_void_p]), ("PQgetisnull", c_int, [c_void_p, c_int, c_int]),
         ("PQftype", c_uint, [c_void_p, c_int]), ("PQgetlength", c_int, [c_void_p, c_int, c_int]),
         ("PQgetvalue", c_void_p, [c_void_p, c_int, c_int]), ("PQclear", None, [c_void_p]),
-        ("PQexecParams", c_void_p, [c_void_p, c_char_p, c_int, POINTER(c_uint), POINTER(c_char_p), POINTER(c_int),
-                                    POINTER(c_int), c_int])]:
+        ("PQsendQueryParams", c_int, [c_void_p, c_char_p, c_int, POINTER(c_uint), POINTER(c_char_p), POINTER(c_int),
+                                      POINTER(c_int), c_int]),
+        ("PQsocket", c_int, [c_void_p]), ("PQisBusy", c_int, [c_void_p]), ("PQconsumeInput", c_int, [c_void_p]),
+        ("PQgetResult", c_void_p, [c_void_p])]:
     getattr(library, name).restype, getattr(library, name).argtypes = result, given
 
 
@@ -46,8 +50,11 @@ def value_of(kind, data):
 
 
 class Connection:
-    def __init__(self, words):
-        self.at = library.PQconnectdb(words.encode())
+    """A connection, on which a command may take so many seconds: one that gets no answer would wait for as long as the network
+    does, which may be a quarter of an hour."""
+
+    def __init__(self, words, limit=60):
+        self.limit, self.at = limit, library.PQconnectdb(words.encode())
         if library.PQstatus(self.at):
             why = library.PQerrorMessage(self.at).decode()
             self.close()
@@ -67,7 +74,12 @@ class Connection:
         count = len(parameters)
         lengths, formats = (c_int * count)(*map(len, values)), (c_int * count)(*[1] * count)
         given = (c_uint * count)(*types), (c_char_p * count)(*values), lengths, formats
-        result = library.PQexecParams(self.at, command.encode(), count, *given, 1)
+        if not library.PQsendQueryParams(self.at, command.encode(), count, *given, 1):
+            raise Error(library.PQerrorMessage(self.at).decode())
+        self.wait()
+        result = library.PQgetResult(self.at)
+        self.wait()
+        library.PQgetResult(self.at)  # (the end of this command)
         try:
             if library.PQresultStatus(result) not in (COMMAND_OK, TUPLES_OK):
                 state = library.PQresultErrorField(result, ord("C"))
@@ -76,6 +88,15 @@ class Connection:
                     for row in range(library.PQntuples(result))]
         finally:
             library.PQclear(result)
+
+    def wait(self):
+        """Returns once the answer is there."""
+        end = time.monotonic() + self.limit
+        while library.PQisBusy(self.at):
+            if not select.select([library.PQsocket(self.at)], [], [], max(0, end - time.monotonic()))[0]:
+                raise Error(f"PostgreSQL has not answered for {self.limit} seconds")
+            if not library.PQconsumeInput(self.at):
+                raise Error(library.PQerrorMessage(self.at).decode())
 
     @staticmethod
     def cell(result, row, column):

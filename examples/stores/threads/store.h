@@ -1,15 +1,13 @@
 // A store of many threads: one lock orders the book and its log, and a thread of its own makes the log durable, a group of
-// entries at a time. Nobody sees a reply, or what a look shows, before it is durable.
+// entries at a time, and cuts it by images. Nobody sees a reply, or what a look shows, before it is durable.
 #ifndef STORE_H
 #define STORE_H
 
 #include "../calls.h"
+#include "lock.h"
 #include "log.h"
 
-#include <condition_variable>
-#include <mutex>
 #include <optional>
-#include <thread>
 #include <utility>
 
 // The number of an entry, and its reply.
@@ -20,16 +18,21 @@ struct Told {
 
 class Store {
   public:
-    // Opens the store in a folder, and makes its book from the log.
-    Store(const std::string &folder, const std::string &nodes) : log(folder, checksum_of(nodes.data(), nodes.size())) {
-        open_book(&handle, nodes);
+    // Opens the store in a folder, and makes its book from the last image and the log after it. The log is cut by an image after
+    // each so many entries.
+    Store(const std::string &folder, const std::string &nodes, std::uint64_t entries_an_image)
+        : log(folder, checksum_of(nodes.data(), nodes.size())), entries_an_image(entries_an_image) {
+        auto image = log.newest_image();
+        if (image.text.empty()) open_book(&handle, nodes);
+        else open_book(&handle, nodes, image.text);
+        made = cut_at = image.number;
         try {
-            log.read([this](const std::vector<lrc_entry> &entries) { replay(entries); });
+            log.read(image.number, [this](const std::vector<lrc_entry> &entries) { replay(entries); });
         } catch (...) {
             lrc_embed_close(&handle);
             throw;
         }
-        durable = made;
+        durable.reach(made);
         writer = std::thread([this] { write_groups(); });
     }
     Store(const Store &) = delete;
@@ -56,18 +59,21 @@ class Store {
         auto command = of_kind(LRC_NEXT);
         std::unique_lock hold(lock);
         while (!stopping) {
-            expect_log();
+            durable.expect();
             if (peek_book(&handle, session, command).kind == LRC_GRANTED) return make(hold, session, command);
-            grown.wait(hold, [this, seen = made] { return made != seen || stopping || failed; });
+            grown.wait(hold, [this, seen = made] { return made != seen || stopping || durable.has_failed(); });
         }
         return std::nullopt;
     }
 
     // Asks the book, by a function of its handle, and returns once all that it has seen is durable.
     template <class Question> auto look(Question question) {
-        std::unique_lock hold(lock);
+        lock.lock_to_look();
+        std::unique_lock hold(lock, std::adopt_lock);
         auto answer = question(&handle);
-        wait_for(hold, made);
+        auto seen = made;
+        hold.unlock();
+        durable.wait_for(seen);
         return answer;
     }
 
@@ -76,10 +82,8 @@ class Store {
         std::lock_guard hold(lock);
         return made;
     }
-    std::uint64_t group_count() {
-        std::lock_guard hold(lock);
-        return groups;
-    }
+    std::uint64_t group_count() const { return groups; }
+    std::uint64_t image_count() const { return images; }
 
     // Lets the workers go that wait for work. Calls and looks are made as before.
     void stop() {
@@ -95,26 +99,20 @@ class Store {
         made += entries.size();
         forget_in_time(&handle);
     }
-    // After a failure the book is ahead of its log: nothing may be called or told any more.
-    void expect_log() const {
-        if (failed) throw LogFailed("the log has failed");
-    }
-    void wait_for(std::unique_lock<std::mutex> &hold, std::uint64_t number) {
-        synced.wait(hold, [&] { return durable >= number || failed; });
-        if (durable < number) expect_log();
-    }
-    Told make(std::unique_lock<std::mutex> &hold, std::uint8_t session, const lrc_command &command) {
-        expect_log();
+    Told make(std::unique_lock<Lock> &hold, std::uint8_t session, const lrc_command &command) {
+        durable.expect();
         auto reply = call_book(&handle, session, command);
         auto number = ++made;
-        pending.push_back(record_of(number, durable, last_entry(&handle)));
+        pending.push_back(record_of(number, durable.count(), last_entry(&handle)));
         forget_in_time(&handle);
         pushed.notify_one();
         grown.notify_all();
-        wait_for(hold, number);
+        hold.unlock();
+        durable.wait_for(number);
         return {number, reply};
     }
-    // The writer: takes all that is pending, and makes it durable without the lock.
+    // The writer: takes all that is pending, and makes it durable without the lock. Now and then it takes an image too, and cuts
+    // the log, while the calls wait that come meanwhile.
     void write_groups() {
         std::unique_lock hold(lock);
         for (;;) {
@@ -122,28 +120,33 @@ class Store {
             if (pending.empty()) return;
             std::vector<Record> group;
             group.swap(pending);
+            Image image{made, {}};
+            if (made - cut_at >= entries_an_image) image.text = image_of(&handle);
             hold.unlock();
-            bool is_written = true;
             try {
                 log.append(group);
+                durable.reach(image.number);
+                groups++;
+                if (!image.text.empty()) log.cut(image), cut_at = image.number, images++;
             } catch (const LogFailed &) {
-                is_written = false;
+                durable.fail();
             }
             hold.lock();
-            failed = !is_written;
-            if (is_written) durable = group.back().number, groups++;
-            synced.notify_all();
-            if (failed) return grown.notify_all();
+            if (durable.has_failed()) return grown.notify_all();
         }
     }
 
     Log log;
+    const std::uint64_t entries_an_image;
     lrc_handle handle = LRC_CLOSED;
-    std::mutex lock; // for all below, and for the book
-    std::condition_variable pushed, synced, grown;
+    Lock lock; // for the book, what is pending, and the flags
+    std::condition_variable_any pushed, grown;
     std::vector<Record> pending; // made, and not yet being written
-    std::uint64_t made = 0, durable = 0, groups = 0;
-    bool stopping = false, closing = false, failed = false;
+    std::uint64_t made = 0;
+    bool stopping = false, closing = false;
+    Durable durable;
+    std::uint64_t cut_at = 0; // the number of the last image; only the writer knows it
+    std::atomic<std::uint64_t> groups{0}, images{0};
     std::thread writer;
 };
 
