@@ -1,0 +1,194 @@
+"""The tables of `lrcman show`, as the tools beside this file read them, and the rules of a lawful seat.
+
+A table is CSV: a header that the reader expects, and rows with as many fields as it has. A table that is not so is refused with
+its file, line and column. These files run without the rest of the repository, so the rules stand here once more; docs/RULES.md
+(Placement, Levels and ranks) has them."""
+import os
+import re
+import sys
+from dataclasses import dataclass
+
+NODE, STRIPE, DOMAIN, SLOTS = range(65536), range(4096), range(256), range(1, 257)
+MODES = ("active", "draining", "gone")
+NODES = "node,fault,upgrade,mode,down,upgrading,online,homes,targets,load,slots"
+STRIPES = ("stripe,code,level,margin,missing,missing_fragments,homeless,homeless_fragments,"
+           + ",".join(f"home_{fragment}" for fragment in range(16)))
+LEASES = "stripe,fragment,holder,target,epoch,expiry"
+STATUS = "name,value"
+LEVELS = ("whole", "risk", "unavailable", "lost")
+
+
+class Refused(Exception):
+    """An input is not what it has to be; the text says where and why, in one line."""
+
+
+class Code:
+    """A code: its name, how many fragments it has, and the sets of fragments of its classes A, B and G."""
+
+    def __init__(self, name, *classes):
+        self.name, self.count = name, sum(map(len, classes))
+        self.classes = [sum(1 << fragment for fragment in members) for members in classes]
+        self.class_of = {fragment: set_of for members, set_of in zip(classes, self.classes) for fragment in members}
+        self.all = (1 << self.count) - 1
+
+    def deficit(self, missing):
+        """How many equations of the global parities a loss needs: two are there, so one of three or more is not recoverable."""
+        a, b, c = ((missing & set_of).bit_count() for set_of in self.classes)
+        return max(0, a - 1) + max(0, b - 1) + c
+
+    def is_recoverable(self, missing):
+        return self.deficit(missing) <= 2
+
+    def margin(self, missing):
+        """How many more fragments may go missing, whichever they are; None where this set is too much already."""
+        if not self.is_recoverable(missing):
+            return None
+        others = missing & ~self.classes[2]
+        return 2 - self.deficit(missing) if others else 3 - missing.bit_count()
+
+
+CODES = {code.name: code for code in (Code("wide", (*range(6), 12), (*range(6, 12), 13), (14, 15)),
+                                      Code("narrow", (0, 1, 2, 6), (3, 4, 5, 7), (8, 9)))}
+
+
+def members(fragments):
+    """The members of a set, in rising order."""
+    while fragments:
+        yield (fragments & -fragments).bit_length() - 1
+        fragments &= fragments - 1
+
+
+@dataclass(slots=True)
+class Node:
+    """A row of `show nodes`. `load` is the number of held slots, homes and targets."""
+    number: int
+    fault: int
+    upgrade: int
+    mode: str
+    is_down: bool
+    is_upgrading: bool
+    is_online: bool
+    homes: int
+    targets: int
+    load: int
+    slots: int
+
+
+def bars(one, other, same_class):
+    """Whether two fragments of a stripe, of one class or not, may not be on these two nodes."""
+    return one.fault == other.fault or same_class and one.upgrade == other.upgrade
+
+
+# Reading
+
+
+def read(path):
+    """The text of a file, or of standard input for `-`."""
+    try:
+        if path == "-":
+            return sys.stdin.buffer.read().decode()
+        with open(path, "rb") as file:
+            return file.read().decode()
+    except OSError as error:
+        raise Refused(f"{path}: {error.strerror}")
+    except UnicodeDecodeError:
+        raise Refused(f"{path}: the text is not UTF-8")
+
+
+class Row:
+    """A row of a table: its fields by the names of their columns."""
+
+    def __init__(self, path, line, names, fields):
+        self.path, self.line, self.fields = path, line, dict(zip(names, fields))
+
+    def __getitem__(self, column):
+        return self.fields[column]
+
+    def refuse(self, column, why):
+        raise Refused(f"{self.path}: line {self.line}, column {column}: {why}: {self[column][:40]!r}")
+
+    def number(self, column, within, why="not a number of its range"):
+        """A number of this range, in decimal without a leading zero."""
+        word = self[column]
+        if not re.fullmatch("0|[1-9][0-9]{0,18}", word) or int(word) not in within:
+            self.refuse(column, f"{why}, {within[0]} to {within[-1]}")
+        return int(word)
+
+    def one_of(self, column, words):
+        if self[column] not in words:
+            self.refuse(column, f"none of {', '.join(words)}")
+        return self[column]
+
+    def flag(self, column):
+        return self.one_of(column, ("yes", "no")) == "yes"
+
+    def seat(self, column):
+        """The node and the slot of a seat, NODE:SLOT."""
+        found = re.fullmatch("(0|[1-9][0-9]{0,4}):(0|[1-9][0-9]{0,2})", self[column])
+        if not found or int(found[1]) not in NODE or int(found[2]) >= SLOTS[-1]:
+            self.refuse(column, "no seat NODE:SLOT")
+        return int(found[1]), int(found[2])
+
+
+    def mask(self, column, code):
+        """A set of fragments of a code, as 0x and four hexadecimal digits."""
+        if not re.fullmatch("0x[0-9a-f]{4}", self[column]) or int(self[column], 16) & ~code.all:
+            self.refuse(column, f"no set of fragments of a {code.name} stripe")
+        return int(self[column], 16)
+
+
+def header_of(path):
+    """The first line of a file."""
+    return read(path).split("\n", 1)[0].removesuffix("\r")
+
+
+def rows_of(path, *headers):
+    """The rows of a table that has one of these headers. A line may end with CRLF; the last may lack its end."""
+    header, *lines = read(path).replace("\r\n", "\n").split("\n")
+    if header not in headers:
+        raise Refused(f"{path}: line 1: the header is not {' or '.join(headers)}")
+    names = header.split(",")
+    if lines and not lines[-1]:
+        lines.pop()
+    rows = []
+    for line, fields in enumerate((text.split(",") for text in lines), 2):
+        if len(fields) != len(names):
+            raise Refused(f"{path}: line {line}: {len(fields)} fields, and not {len(names)}")
+        rows.append(Row(path, line, names, fields))
+    return rows
+
+
+def nodes_of(path):
+    """The nodes of a table of `show nodes`, by their numbers, in its order."""
+    nodes = {}
+    for row in rows_of(path, NODES):
+        number = row.number("node", NODE)
+        if number in nodes:
+            row.refuse("node", "a node that is there twice")
+        flags = [row.flag(name) for name in ("down", "upgrading", "online")]
+        slots = row.number("slots", SLOTS)
+        counts = [row.number(name, range(slots + 1)) for name in ("homes", "targets", "load")]
+        if counts[0] + counts[1] != counts[2]:
+            row.refuse("load", "not the sum of homes and targets")
+        fault, upgrade = row.number("fault", DOMAIN), row.number("upgrade", DOMAIN)
+        node = Node(number, fault, upgrade, row.one_of("mode", MODES), *flags, *counts, slots)
+        if node.is_online != (node.mode != "gone" and not node.is_down and not node.is_upgrading):
+            row.refuse("online", "not what mode, down and upgrading say")
+        nodes[number] = node
+    if not nodes:
+        raise Refused(f"{path}: the table has no nodes")
+    return nodes
+
+
+def run(name, main):
+    """Runs a tool: what it refuses is one line on standard error and status 2; a reader that closes early is no fault."""
+    try:
+        status = main()
+        sys.stdout.flush()
+        sys.exit(status)
+    except Refused as why:
+        print(f"{name}:", " ".join(str(why).split()), file=sys.stderr)
+        sys.exit(2)
+    except BrokenPipeError:
+        os.dup2(os.open(os.devnull, os.O_WRONLY), sys.stdout.fileno())
+        sys.exit(3)
