@@ -1,6 +1,6 @@
 """A book of the library beside a store of the model in tests/model/rules.py: what both report, and the calls that both make."""
 from tests import harness
-from tests.library import library, walked
+from tests.library import library, texts, walked
 from tests.library.library import lrc_embed
 from tests.model import image_text, recipe_rules, rules
 
@@ -97,6 +97,9 @@ def compare(book, store, count):
         expect(name, rows, right)
     outage = walked.drawn_outage(store, count)
     expect(f"forecast {outage}", walked.forecast_in_book(book, *outage), walked.forecast_in_model(store, *outage))
+    if count % 10 == 0:  # (the model takes its time)
+        for name, found, right in texts.texts_of(book, store, count, count // 10):
+            expect(name, found, right)
     last, before = range(max(0, book.count() - 5), book.count()), book.before()
     found = [bytes(entry) for entry in book.entries(before + last.start, 2)]
     expect("the last entries", found, [bytes(book.entry(i)) for i in last])
@@ -136,8 +139,16 @@ def make(book, store, session, line, count, looks=False):
         elsewhere = status_of(lambda: book.call_at(count + 1, session, command))
         expect("a call elsewhere", elsewhere, lrc_embed.Status.MOVED)
         compare(book, store, count)
-    # (in turn by the two ways of a call)
-    found = book.call_at(book.before() + book.count(), session, command) if looks else book.call(session, command)
+    # (in turn by the three ways of a call)
+    planned = book.peek_entry(session, command)
+    if looks:
+        found = book.call_at(book.before() + book.count(), session, command)
+    elif count % 2:
+        made = book.call_entry(session, command)
+        expect("entry of the call", bytes(made), bytes(book.entry(book.count() - 1)))
+        found = made.reply
+    else:
+        found = book.call(session, command)
     right = store.call(session, line)
     expect("reply", str(found), right)
     expect("reply that a peek reports", bytes(peeked), bytes(found))
@@ -148,6 +159,9 @@ def make(book, store, session, line, count, looks=False):
     expect("session of the entry", entry.session, session)
     expect("command of the entry", bytes(entry.command), bytes(command))
     expect("reply of the entry", bytes(entry.reply), bytes(found))
+    expect("entry that a peek returns", bytes(planned), bytes(entry))
+    expect("line of the reply", book.reply_line(book.count() - 1), f"{book.before() + book.count()} {right}\n")
+    expect("line of the command", lrc_embed.command_line(book.library, command), line)
     return right
 
 

@@ -72,12 +72,12 @@ void __wrap_free(void *block) {
 
 static lrc_handle handle = LRC_CLOSED;
 
-static void want(bool holds, int line) {
+static void want(bool holds, const char *file, int line) {
     if (holds) return;
-    fprintf(stderr, "embed.c:%d: not as wanted\n", line);
+    fprintf(stderr, "%s:%d: not as wanted\n", file, line);
     exit(1);
 }
-#define WANT(condition) want(condition, __LINE__)
+#define WANT(condition) want(condition, __FILE__, __LINE__)
 
 #define ENTRIES 100
 #define STRIPES 4
@@ -725,7 +725,7 @@ static void call_at_place(void) {
 
 // The word for a number, where there is room for it and where there is not.
 static void has_name(uint32_t (*name_of)(uint32_t, uint8_t *, size_t, size_t *), uint32_t number, const char *word) {
-    uint8_t text[32];
+    uint8_t text[80];
     size_t length = 99;
     memset(text, '#', sizeof text);
     if (!word) {
@@ -1057,6 +1057,8 @@ static void forgets(void) {
     WANT(after.before == 10 && after.count == 0);
 }
 
+#include "embed_texts.h"
+
 static uint32_t open_image(const char *nodes, const char *text, size_t *detail, uint32_t *cause) {
     uint32_t status;
     STATUS(status, lrc_embed_open_image(&handle, (const uint8_t *)nodes, strlen(nodes), (const uint8_t *)text,
@@ -1313,6 +1315,7 @@ int main(int argc, char **argv) {
     WANT(lrc_embed_version() == LRC_EMBED_VERSION && lrc_embed_rules_version() == LRC_RULES_VERSION);
     texts();
     closed();
+    texts_of_closed();
     open_twenty();
     WANT(lrc_embed_open(&handle, (const uint8_t *)"", 0, &(size_t){0}) == LRC_IS_OPEN);
     ranges();
@@ -1327,6 +1330,8 @@ int main(int argc, char **argv) {
     forecasts();
     call_at_place();
     names();
+    more_names();
+    lines();
     recipes();
     code_stripes(LRC_WIDE, 12);
     code_stripes(LRC_NARROW, 6);
@@ -1334,6 +1339,7 @@ int main(int argc, char **argv) {
     narrow();
     replays();
     forgets();
+    texts_of_book();
     begins();
     if (is_full || strcmp(word, "images") == 0) { // once, and not for each request that is refused
         refused_images();

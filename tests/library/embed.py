@@ -6,6 +6,7 @@ Usage: tests/library/embed [--long] [FOLDER], where FOLDER has what examples/emb
   function, each constant; and the structs and constants of the Python module with the header. Compilers take it without a
   warning, and refuse another layout of its structs.
 - The examples in C, C++, Python and Rust print what the rules ask for, and refuse a library of another version.
+- Lines of commands are read and written, and words told, as the pages say (tests/library/texts.py).
 - The Python module refuses numbers that a field would cut down, closes a book that is no longer used, and replays in pieces,
   also logs of earlier libraries.
 - Books begin in images over other nodes, and in a store that is taken over, as docs/EMBEDDING.md says.
@@ -32,7 +33,7 @@ from concurrent.futures import ThreadPoolExecutor
 
 from tests import harness
 from tests.harness import CC, EXAMPLES, TESTS, TOP
-from tests.library import images, module
+from tests.library import images, module, texts
 from tests.library.library import code_word, command_of, load_rows, lrc_embed, of_version, risk_rows
 from tests.model import rules
 
@@ -41,7 +42,7 @@ EMBED, INCLUDE = f"{EXAMPLES}/embed", f"{TOP}/crates/lrc_embed/include"
 CXX = os.environ.get("CXX", "c++")
 STRICT = ["-Wall", "-Wextra", "-Werror"]
 # The version of the header, and a sum of what it declares.
-INTERFACE = "4", "aa935d30212f"
+INTERFACE = "5", "cf5c12b75e3a"
 COUNTED = ["-Wl,--wrap=malloc,--wrap=realloc,--wrap=free"]
 
 
@@ -70,7 +71,7 @@ SLICES_OF = {"&[&[u8]]": "const lrc_bytes *", "&mut [&mut [u8]]": "lrc_buffer *"
 
 def snake(name):
     """LrcCommand or NotNeeded, as lrc_command or not_needed."""
-    return re.sub(r"(?<=[a-z])(?=[A-Z])", "_", name).lower()
+    return re.sub(r"(?<=[a-z])(?=[A-Z])|(?<=[A-Z])(?=[A-Z][a-z])", "_", name).lower()
 
 
 def sources():
@@ -203,7 +204,7 @@ def names_in(declaration):
 NAMED_ANEW = {"safe": "is_safe", "needed": "length"}
 
 # What the names of an enum of the header begin with, where it is not LRC_ alone.
-BEGINNINGS = {"lrc_cause": "LRC_CAUSE_"}
+BEGINNINGS = {"lrc_cause": "LRC_CAUSE_", "lrc_line_cause": "LRC_LINE_", "lrc_view": "LRC_SHOW_"}
 
 
 def numbered(text, pattern, beginning="LRC_"):
@@ -229,6 +230,10 @@ def constants_of(texts):
         "lrc_outage": {f"LRC_{name.upper()}": int(number)
                        for number, name in re.findall(r"(\d+) => Some\(Outage::(\w+)\)", texts["lrc_walks/outages.rt"])},
         "lrc_cause": numbered(read(f"{TOP}/crates/lrc_images/src/cause.rt"), r"^    (\w+) = (\d+),$", BEGINNINGS["lrc_cause"]),
+        "lrc_line_cause": numbered(read(f"{TOP}/crates/lrc_script/src/script.rt"), r"^    (\w+) = (\d+),$",
+                                   BEGINNINGS["lrc_line_cause"]),
+        "lrc_view": {f"LRC_SHOW_{'_'.join(filter(None, names)).upper()}": int(number) for number, *names in
+                     re.findall(r"(\d+) => Some\(View::(\w+)(?:\(DomainKind::(\w+)\))?\)", texts["lrc_embed/exports/tables.rt"])},
     }
 
 
@@ -561,6 +566,7 @@ def main(words):
         test_versions(count, room)
         module.test(count, ctypes.CDLL(library))
         images.test(count, ctypes.CDLL(library))
+        texts.test(count, ctypes.CDLL(library))
         test_bundles(count, library)
         test_calls(count, room, is_long)
         count.run("bench/embed", sys.executable, f"{TOP}/bench/embed", "--quick", room)

@@ -5,12 +5,23 @@ from collections import namedtuple
 from tests.harness import CC, EXAMPLES, loaded
 
 lrc_embed = loaded(f"{EXAMPLES}/embed/lrc_embed.py")
-commands = loaded(f"{EXAMPLES}/stores/commands.py")
-FIELDS, command_of = commands.FIELDS, commands.command_of
+# The fields that follow each word, after docs/RULES.md; a node follows the others.
+FIELDS = {
+    "place": ["stripe"], "place6": ["stripe"], "drop": ["stripe"], "lease": ["stripe", "fragment"], "next": [],
+    "done": ["stripe", "fragment", "epoch"], "abandon": ["stripe", "fragment", "epoch"], "revoke": ["stripe", "fragment"],
+    "upgrade": ["domain"], "upgraded": ["domain"], "tick": [],
+}
 
 # A library of another version, which has nothing else: the shared library, its folder, and the words by which a program that is
 # linked with the library itself calls the other version.
 Other = namedtuple("Other", ["shared", "folder", "links"])
+
+
+def command_of(line):
+    """The command of a line."""
+    word, *numbers = line.split(" ")
+    kind = lrc_embed.CommandKind["REPORT" if word == "done" else word.upper()]
+    return lrc_embed.Command(kind, **dict(zip(FIELDS.get(word, ["node"]), map(int, numbers), strict=True)))
 
 
 def of_version(count, room, version):

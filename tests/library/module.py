@@ -4,13 +4,15 @@ an earlier library saved, walks over entries while the book forgets them, and re
 import ctypes
 import gc
 import struct
+from collections import Counter
 from itertools import islice
 
 from tests.harness import nodes_in_order, topology_of
 from tests.library.library import command_of
 # (which tests/library/library.py has loaded)
+import lrc_embed
 from lrc_embed import (RULES_VERSION, VERSION, Book, Cause, Code, Command, CommandKind, Entry, Fault, ModeKind, OtherVersion,
-                       Outage, Status, encode, matrix, name_of, recipe_of, rules_version)
+                       NAMES, Outage, Status, View, encode, matrix, recipe_of, rules_version, words_of)
 
 TWENTY = topology_of(nodes_in_order(20, 4))
 SCRIPT = ("place 1", "place 2", "fail 3", "next", "lease 2 7", "done 1 3 1", "next", "upgrade 0", "upgraded 0")
@@ -22,7 +24,7 @@ RANGES = {"session": (1, 8), "kind": (1, 18), "stripe": (0, 4095), "fragment": (
           "domain": (0, 255), "epoch": (0, 4294967295), "index": (0, 18446744073709551615),
           "place": (0, 18446744073709551615), "outage": (1, 2),
           "code": (1, 2), "set of fragments": (0, 65535),
-          "status number": (0, 4294967295), "reply number": (0, 255), "refusal number": (0, 255)}
+          "number of a word": (0, 255), "view": (1, 9)}
 
 
 def done_or_fault(call):
@@ -43,7 +45,8 @@ def ways_of(book):
 
     return {
         "session": [lambda n: book.call(n, Command(CommandKind.NEXT)), lambda n: Entry(session=n),
-                    lambda n: setattr(entry, "session", n), lambda n: book.peek(n, Command(CommandKind.NEXT))],
+                    lambda n: setattr(entry, "session", n), lambda n: book.peek(n, Command(CommandKind.NEXT)),
+                    lambda n: book.peek_entry(n, Command(CommandKind.NEXT))],
         "kind": [Command, lambda n: setattr(command, "kind", n)],
         "stripe": [*made_of(CommandKind.PLACE, "stripe"), book.homes, book.level, book.missing, book.code,
                    lambda n: book.lease(n, 0), lambda n: book.repair(n, 0), lambda n: book.recipe(n, 0)],
@@ -54,14 +57,15 @@ def ways_of(book):
                  lambda n: done_or_fault(lambda: book.forecast(Outage.STOP, [n]))],
         "domain": [*made_of(CommandKind.UPGRADE, "domain")],
         "epoch": [*made_of(CommandKind.REPORT, "epoch")],
-        "index": [book.entry],
+        "index": [book.entry, book.reply_line],
         "place": [lambda n: done_or_fault(lambda: book.call_at(n, 1, Command(CommandKind.NEXT))),
                   lambda n: list(book.entries(n))],
-        "outage": [lambda n: book.forecast(n, [0])],
+        "outage": [lambda n: book.forecast(n, [0]), lambda n: book.forecast_table(n, [0])],
         "code": [lambda n: recipe_of(book.library, n, 0, 0), lambda n: matrix(book.library, n),
                  lambda n: done_or_fault(lambda: encode(book.library, n, []))],
         "set of fragments": [lambda n: recipe_of(book.library, Code.WIDE, n, 0)],
-        **{f"{table} number": [lambda n, table=table: name_of(book.library, table, n)] for table in ("status", "reply", "refusal")},
+        "number of a word": [lambda n, table=table: words_of(book.library, table, n) for table in NAMES],
+        "view": [book.show],
     }
 
 
@@ -287,8 +291,34 @@ def test_faults(count, library):
         count.check(f"the module: a book that is not opened: {found}, and not {right}", found == right)
 
 
+class Counted:
+    """A library whose calls are counted."""
+
+    def __init__(self, library):
+        self.library, self.calls = library, Counter()
+
+    def __getattr__(self, name):
+        self.calls[name] += 1
+        return getattr(self.library, name)
+
+
+def test_image(count, library):
+    """An image is made once, and a second time where it needs more room than is usual."""
+    with Book(library, TWENTY, log_of(library)) as book:
+        text = book.image()
+    for room, wanted in ((lrc_embed.IMAGE_ROOM, 1), (len(text), 1), (len(text) - 1, 2), (1, 2)):
+        counted, usual = Counted(library), lrc_embed.IMAGE_ROOM
+        lrc_embed.IMAGE_ROOM = room
+        with Book(counted, TWENTY, log_of(library)) as book:
+            found = book.image()
+        lrc_embed.IMAGE_ROOM = usual
+        made = counted.calls["lrc_embed_image"]
+        count.check(f"the module: an image with room for {room} of {len(text)} bytes is made {made} times", found == text and made == wanted)
+
+
 def test(count, library):
     test_versions(count, library)
+    test_image(count, library)
     test_faults(count, library)
     test_forgotten(count, library)
     test_numbers(count, library)

@@ -4,9 +4,12 @@ from collections import Counter
 
 from tests.model import rules
 from tests.model.field import read_for
-from tests.model.rules import FRAGMENTS, members
+from tests.model.rules import FRAGMENTS, is_recoverable, margin, members
 
-VIEWS = ("status", "stripes", "nodes", "leases", "work")
+SERVED = ("status", "stripes", "nodes", "leases", "work")  # those that the service shows too
+VIEWS = (*SERVED, "fragments", "domains fault", "domains upgrade", "health")  # the words after `show`
+LEVELS = ("whole", "at_risk_margin_2", "at_risk_margin_1", "at_risk_margin_0", "unavailable", "lost")
+DOMAINS = ["domain", "nodes", "online", "homes", "targets", "load", "slots", "stripes", *LEVELS]
 HOMES = [f"home_{fragment}" for fragment in FRAGMENTS]
 HEADS = {
     "status": ["name", "value"],
@@ -14,6 +17,11 @@ HEADS = {
     "nodes": ["node", "fault", "upgrade", "mode", "down", "upgrading", "online", "homes", "targets", "load", "slots"],
     "leases": ["stripe", "fragment", "holder", "target", "epoch", "expiry"],
     "work": ["stripe", "fragment", "kind", "sources", "reads", "standing", "holder", "epoch"],
+    "fragments": ["stripe", "fragment", "node", "slot", "fault", "upgrade", "state", "mode", "why", "target", "holder", "epoch",
+                  "expiry"],
+    "domains fault": DOMAINS,
+    "domains upgrade": DOMAINS,
+    "health": ["reason", "count", "first"],
 }
 
 REPORTS = {"may-stop": "down", "may-lose": "fail"}
@@ -94,15 +102,31 @@ def work_rows(store):
                 yield [*key, kind, " ".join(sources), reads(store, key, kind), *standing(store, key)]
 
 
+def level_name(code, homeless, missing):
+    """The level of a stripe of this code, with the margin, by its homeless and its missing fragments."""
+    if not is_recoverable(code, homeless):
+        return "lost"
+    left = margin(code, missing)
+    if left is None:
+        return "unavailable"
+    return f"at_risk_margin_{left}" if missing else "whole"
+
+
+def levels_of(store):
+    """The level of each stripe."""
+    return {stripe: level_name(code, store.homeless(stripe), store.missing(stripe)) for stripe, code in store.stripes.items()}
+
+
+def level_counts(levels):
+    """How many stripes have each level."""
+    counts = Counter(levels.values())
+    assert counts.keys() <= set(LEVELS), counts
+    return [counts[level] for level in LEVELS]
+
+
 def status_rows(store, entries):
-    levels = Counter()
-    for stripe in store.stripes:
-        level, margin = level_of(store, stripe)
-        levels[f"at_risk_margin_{margin}" if level == "risk" else level] += 1
     yield ["stripes", len(store.stripes)]
-    for level in ("whole", "at_risk_margin_2", "at_risk_margin_1", "at_risk_margin_0", "unavailable", "lost"):
-        yield [level, levels.pop(level, 0)]
-    assert not levels, levels
+    yield from zip(LEVELS, level_counts(levels_of(store)))
     yield ["missing_fragments", sum(store.missing(stripe).bit_count() for stripe in store.stripes)]
     yield ["homeless_fragments", sum(store.homeless(stripe).bit_count() for stripe in store.stripes)]
     yield ["leases", len(store.leases)]
@@ -117,15 +141,99 @@ def status_rows(store, entries):
     yield ["entries", entries]
 
 
+def whereabouts(store, home):
+    """Where a fragment is: its seat, the domains of the node, whether it is there, and the mode of a node and why it is offline."""
+    if home is None:
+        return ["", "", "", "", "homeless", "", ""]
+    node, slot = home
+    info, is_met = store.nodes[node], {"down": node in store.down, "upgrading": store.nodes[node].upgrade == store.upgrading}
+    why = " ".join(word for word in is_met if is_met[word])
+    return [node, slot, info.fault, info.upgrade, "present" if store.is_online(node) else "offline", store.mode[node], why]
+
+
+def fragments_rows(store):
+    for stripe in sorted(store.stripes):
+        for fragment in store.fragments(stripe):
+            key = stripe, fragment
+            lease = store.leases.get(key)
+            terms = [seat(lease.target), lease.holder, lease.epoch, lease.expiry] if lease else [""] * 4
+            yield [*key, *whereabouts(store, store.homes.get(key)), *terms]
+
+
+def domains_of(store, kind):
+    """The domains of a kind, in rising order, each with its nodes, and with the set of fragments that each stripe has there."""
+    nodes, hits = {}, {}
+    for number, node in store.nodes.items():
+        nodes.setdefault(getattr(node, kind), []).append(number)
+    for (stripe, fragment), (node, _) in store.homes.items():
+        hits.setdefault(getattr(store.nodes[node], kind), Counter())[stripe] |= 1 << fragment
+    for domain in sorted(nodes):
+        yield domain, nodes[domain], hits.get(domain, {})
+
+
+def levels_without(store, levels, hits, is_lost):
+    """The levels once these fragments of each stripe are lost, or offline."""
+    return levels | {stripe: level_name(store.stripes[stripe], store.homeless(stripe) | (hits[stripe] if is_lost else 0),
+                                        store.missing(stripe) | hits[stripe]) for stripe in hits}
+
+
+def domains_rows(store, kind):
+    levels = levels_of(store)
+    for domain, nodes, hits in domains_of(store, kind):
+        later = levels_without(store, levels, hits, kind == "fault")
+        yield [domain, len(nodes), sum(map(store.is_online, nodes)), sum(len(store.homes_on(node)) for node in nodes),
+               sum(len(store.targets_on(node)) for node in nodes), sum(map(store.load, nodes)),
+               sum(store.nodes[node].slots for node in nodes), len(hits), *level_counts(later)]
+
+
+def fragile_domains(store, levels):
+    """The fault domains whose loss would lose a stripe that is not lost."""
+    for domain, _, hits in domains_of(store, "fault"):
+        later = levels_without(store, levels, hits, True)
+        if any(later[stripe] == "lost" != levels[stripe] for stripe in hits):
+            yield domain
+
+
+def reasons(store):
+    """Why a store is not well: each reason, and where it is there."""
+    levels = levels_of(store)
+    for reason, level in zip(("lost", "unavailable", "margin_0", "margin_1", "margin_2"), reversed(LEVELS)):
+        yield reason, [stripe for stripe in sorted(levels) if levels[stripe] == level]
+    work = {"no_node": [], "open": []}
+    for stripe, fragment, *_, standing, _, _ in work_rows(store):
+        work.get(standing, []).append(f"{stripe} {fragment}")
+    yield "no_node", work["no_node"]
+    yield "waiting", work["open"]
+    yield "ending", ["%d %d" % key for key, lease in sorted(store.leases.items()) if lease.expiry == store.clock + 1]
+    yield "upgrading", [] if store.upgrading is None else [store.upgrading]
+    yield "fault_domains", list(fragile_domains(store, levels))
+
+
+def health_rows(store):
+    rows = [[reason, len(places), places[0]] for reason, places in reasons(store) if places]
+    active = store.nodes_in("active")
+    slots, load = sum(store.nodes[node].slots for node in active), sum(map(store.load, active))
+    if slots - load < slots / 10:
+        rows.append(["slots", slots - load, ""])
+    return rows or [["ok", 0, ""]]
+
+
+def is_in_danger(store):
+    """Whether `show health` ends with status 4."""
+    return any(level in LEVELS[3:] for level in levels_of(store).values())
+
+
 def text_of(head, rows):
     return "".join(",".join(map(str, row)) + "\n" for row in [head, *rows])
 
 
 def shown(view, store, entries):
     """The table of a view, after so many entries."""
+    word, *kind = view.split(" ")
     rows = {"status": lambda: status_rows(store, entries), "stripes": lambda: stripes_rows(store), "nodes": lambda: nodes_rows(store),
-            "leases": lambda: leases_rows(store), "work": lambda: work_rows(store)}
-    return text_of(HEADS[view], rows[view]())
+            "leases": lambda: leases_rows(store), "work": lambda: work_rows(store), "fragments": lambda: fragments_rows(store),
+            "domains": lambda: domains_rows(store, *kind), "health": lambda: health_rows(store)}
+    return text_of(HEADS[view], rows[word]())
 
 
 def nodes_of(store, words):

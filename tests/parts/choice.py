@@ -14,47 +14,50 @@ from tests.harness import TOP
 from tests.parts import parts
 
 EACH = "house choice lists"  # each change runs these
-QUICK = "compare sweep pictures replay show recipes"  # parts over the program that have a quick form
-FULL = "sweep replay show limits bench budget"  # those over the program that a proved one is wanted for
-LIBRARY = "limits embed bytes beside stores service cluster"
+QUICK = "compare sweep pictures replay show recipes takeover balance"  # parts over the program that have a quick form
+FULL = "sweep replay show limits packages bench budget"  # those over the program that a proved one is wanted for
+LIBRARY = "limits embed bytes beside stores service cluster packages"
 ROWS = [
     # Pages.
     ("README.md", "compare", ""),
     ("docs/RULES.md", "compare", ""),
-    ("docs/OPERATING.md", "compare recipes", ""),
+    ("docs/OPERATING.md", "compare recipes takeover balance", ""),
     ("docs/SERVICE.md", "service", ""),
-    ("docs/FORMATS.md", "compare show", ""),
+    ("docs/FORMATS.md", "compare show recipes", ""),
     ("docs/SPEED.md", "", ""),
-    ("docs/SPEED.md docs/EMBEDDING.md", "embed", ""),
+    ("docs/SPEED.md docs/EMBEDDING.md", "embed stores", ""),
     # Tests, and what they import.
     ("tests/program/recipes", "recipes", ""),
     ("tests/program/show.py", "show", ""),
-    ("tests/model/rules.py", "sweep growth pictures replay show recipes compare limits embed bytes beside stores service cluster bench budget edits believe tried", ""),
-    ("tests/model/draws.py", "replay show beside stores bench budget", ""),
+    ("tests/model/rules.py", "sweep growth pictures replay show recipes takeover balance compare limits embed bytes beside stores service cluster packages bench budget edits believe tried", ""),
+    ("tests/model/draws.py", "replay show pictures beside stores bench budget", ""),
     ("tests/program/calls.c", "sweep growth", ""),
     ("tests/library/restarts.py", "beside", ""),
     ("tests/stores/store_sqlite.py", "stores", ""),
     ("tests/proofs/kit.py", "edits", ""),
+    ("tools/tables.py", "pictures recipes takeover balance", ""),
+    ("tools/balance", "recipes balance", ""),
     ("bench/budget", "budget", ""),
     ("bench/kinds.py", "bench budget", ""),
     ("tests/service/limits.py", "service", ""),
     ("run-tests", "", ""),
     # Examples.
     ("examples/rules/place_and_fail.bundle", "compare replay show", ""),
-    ("examples/embed/lrc_embed.py", "limits embed bytes beside stores", ""),
+    ("examples/embed/lrc_embed.py", "limits embed bytes beside stores packages", ""),
     ("examples/stores/threads/main.c", "stores", ""),
     ("examples/cluster/gateway.go", "cluster", ""),
     # The service.
     ("service/internal/replica/gather.go", "service", ""),
     ("service/client/client.go", "service cluster", ""),
     # Crates: what only the program stands on, what both stand on, what neither does, and the tests of crates.
-    ("crates/lrc_show/src/status.rt", f"edits believe tried {QUICK}", f"proofs {FULL}"),
+    ("crates/lrc_outputs/src/play.rt", f"edits believe tried {QUICK}", f"proofs {FULL}"),
+    ("crates/lrc_show/src/status.rt", f"edits believe tried {QUICK}", f"proofs {FULL} {LIBRARY}"),
     ("crates/lrc_walks/src/lib.rt", "edits believe", f"proofs {LIBRARY}"),
     ("crates/lrc_store/src/decide.rt", f"edits believe tried {QUICK}", f"proofs growth {FULL} {LIBRARY}"),
     ("crates/lrc_durability/src/laws.rt", "edits believe", "proofs"),
     ("crates/lrc_sessions_tests/src/code.rt", "edits believe tried", "proofs"),
     ("crates/probes/src/main.rt", "edits believe", "proofs growth"),
-    ("crates/lrc_embed/include/lrc_embed.h", "edits embed bytes stores service cluster", ""),
+    ("crates/lrc_embed/include/lrc_embed.h", "edits embed bytes stores service cluster packages", ""),
     # What no compiler reads.
     ("crates/lrc_rules/specs/Steps.antt", "edits believe", "proofs"),
     ("crates/lrc_rules/proofs/ChangesLemmas.antt", "edits", "proofs"),
@@ -62,7 +65,7 @@ ROWS = [
     ("crates/lrc_rules/must-fail/a_new_one.edit", "edits", "proofs"),
     ("crates/lrcman/stdout", "edits", "proofs"),
     # Together.
-    ("crates/lrc_show/src/status.rt tests/program/show docs/SPEED.md", f"edits believe tried {QUICK}", "proofs sweep replay limits bench budget"),
+    ("crates/lrc_show/src/status.rt tests/program/show docs/SPEED.md", f"edits believe tried {QUICK}", "proofs sweep replay limits packages bench budget embed bytes beside stores service cluster"),
     # What no part looks at.
     (".gitignore", "", ""),
 ]

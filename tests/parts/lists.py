@@ -34,7 +34,9 @@ NOWHERE = {
 OLD = {
     "A command": Old(r"(?i)undrain", NOWHERE | {
         "crates/lrc_sessions_tests/src/runs/mixed.rt": "its commands are drawn",
-        "tests/program/replay.py": "a scenario", "tests/library/bytes.py": "a scenario", "service/internal/httpapi/recipes_test.go": "a scenario",
+        "tests/program/replay.py": "a scenario", "tests/program/balance.py": "a scenario",
+        "tools/balance": "it plans with what it needs",
+        "tests/library/bytes.py": "a scenario", "service/internal/httpapi/recipes_test.go": "a scenario",
         "examples/cluster/**": "a store makes the commands that it needs", "docs/CODING.md": "it shows what such a store does",
         "docs/SERVICE.md": "it tells of such a store", "tests/figures/ceilings": "tests/figures/house writes it"}),
     "A refusal": Old(r"[Tt]arget.?[Oo]ffline|TARGET_OFFLINE|\b115\b", NOWHERE | {"tests/proofs/growth.py": "a scenario"}),

@@ -353,7 +353,8 @@ def test_tables(count, program):
     store, image = full_store()
     given = image + harness.topology_of(store.nodes)
     for view in shown.VIEWS:
-        expect(count, "the full store", program, ["show", view], given, shown.shown(view, store, full.BEFORE))
+        status = 4 if view == "health" and shown.is_in_danger(store) else 0
+        expect(count, "the full store", program, ["show", *view.split(" ")], given, shown.shown(view, store, full.BEFORE), status)
     for store, image, word, named, nodes, _, after in forecasts():
         table, harms = shown.outlook(store, after, shown.newly_away(word, store, nodes))
         given = image + harness.topology_of(store.nodes)

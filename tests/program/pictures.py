@@ -1,75 +1,53 @@
-"""Draws pictures with tools/picture, of examples that the program runs, also with CRLF and with a byte order mark, and of
-wide topologies, and of sequels, and checks them.
+"""Draws pictures with tools/picture, of examples that the program shows, of drawn stores and of wide topologies, and checks them.
 
 Usage: tests/program/pictures [PROGRAM], by default the program that `rt ci` or `rt run` has built in crates/lrcman.
 
 Right is, and nothing else:
-- a picture is XML; it has each node once, with its domains, mode, load and whether it is online, inside the picture and
-  over no other node; it has the first stripes at risk once, in their order, each with its code and fragments, and the
-  number of the others;
-- for an input that does not fit: status 2, one line on standard error and nothing on standard output.
+- a picture is XML; it has each node once, with its domains, mode, homes, targets and whether it is full, down, upgrading and
+  online, inside the picture and over no other node; a grid has no more cells than half as many nodes again; it has the first
+  stripes at risk once, in their order, each with its code and fragments, those without a home, those that are offline and
+  those that are leased apart, and the number of the others; it tells entries, clock, upgrading domain and leases;
+- with --load, each node that is not gone is counted once in the class of its share, in all and in its fault domain, in their order;
+- for tables that do not fit: status 2, one line on standard error with the place, and nothing on standard output.
 The last line is 'N passed, M failed'."""
-import os
+import random
+import re
 import subprocess
 import sys
 import tempfile
 import xml.etree.ElementTree as ElementTree
+from collections import Counter
 
 from tests import harness
-from tests.harness import example, parts_of, run_bundle
-from tests.model import rules
-from tests.model.rules import Node, members
+from tests.harness import example, parts_of
+from tests.model import draws, shown
+from tests.model.rules import NARROW, WIDE, Node, members
+from tests.model.store import Store
 
 PICTURE = f"{harness.TOP}/tools/picture"
 EXAMPLES = ("each_mode_and_level", "most_nodes", "nodes_fail_under_both_codes", "narrow_stripe_unavailable")
-ONE_NODE = {0: Node(0, 0, 4)}
+VIEWS = "nodes", "stripes", "status", "leases"
 SVG = "{http://www.w3.org/2000/svg}"
-BOM = b"\xef\xbb\xbf"
+CODES = {"wide": WIDE, "narrow": NARROW}
 # The columns of a stripe's fragments, of sixteen.
 COLUMNS = {"wide": range(16), "narrow": [*range(3), *range(6, 9), *range(12, 16)]}
-# The script of a small run, and the rows of its risk table.
-PLACES, RISK = ("place 7", "place6 2", "place 1"), ["7,risk,0,000e", "2,risk,1,0003"]
+NODES = ",".join(shown.HEADS["nodes"])
+STRIPES = ",".join(shown.HEADS["stripes"])
+DRAWN = 40
 
 
-def draw(folder, bundle, output, *more, name="a.bundle"):
-    """Runs tools/picture on the bytes of a bundle and of an output."""
-    paths = [os.path.join(folder, name), os.path.join(folder, "a.out")]
-    for path, data in zip(paths, (bundle, output)):
-        with open(path, "wb") as file:
-            file.write(data)
-    return subprocess.run([PICTURE, *more, *paths], capture_output=True)
+def draw(folder, tables, *more):
+    """Runs tools/picture on the texts of tables by their names."""
+    for name, table in tables.items():
+        with open(f"{folder}/{name}.csv", "w", encoding="utf-8", newline="") as file:
+            file.write(table)
+    return subprocess.run([PICTURE, *more, *(f"{name}.csv" for name in tables)], cwd=folder, capture_output=True)
 
 
-def bundle_of(nodes, commands=PLACES):
-    """A bundle of nodes and of one script."""
-    return harness.bundle_of(nodes, [commands]).encode()
-
-
-def placed(code):
-    """The reply to a command that places a stripe, of which a picture shows no seat."""
-    return "placed" + " 0:0" * len(code.fragments)
-
-
-def tables(risk, load):
-    return ["risk", rules.RISK_HEADER, *risk, "load", rules.LOAD_HEADER, *load, ""]
-
-
-def output_of(risk, load, commands=PLACES):
-    """An output of one script, which places stripes."""
-    replies = [f"{place} {placed(rules.PLACES[command.split(' ')[0]])}" for place, command in enumerate(commands, 1)]
-    return "\n".join(["script 1", *replies, *tables(risk, load)]).encode()
-
-
-def narrow_in(scripts):
-    """The narrow stripes of scripts that place each stripe once, or anew by the same code."""
-    return {int(line.split(" ")[1]) for script in scripts for line in script if line.startswith("place6 ")}
-
-
-def tables_of(output):
-    """The rows of the tables of risk and load."""
-    lines = output.decode().split("\n")
-    risk, load = lines.index("risk"), lines.index("load")
-    return lines[risk + 2:load], lines[load + 2:-1]
+def rows_of(table):
+    """The rows of a table by the names of their columns."""
+    head, *lines = table.splitlines()
+    return [dict(zip(head.split(","), line.split(","))) for line in lines]
 
 
 def groups(element, x=0.0, y=0.0):
@@ -81,61 +59,6 @@ def groups(element, x=0.0, y=0.0):
             if child.get("id"):
                 yield child, *at
             yield from groups(child, *at)
-
-
-def titles(picture, kind):
-    """The ids and the titles of the nodes, or of the stripes, in the order of the picture."""
-    found = [group for group, _, _ in groups(picture) if group.get("class").split()[0] == kind]
-    return [(group.get("id"), group.find(SVG + "title").text, group.get("class").split()[1:]) for group in found]
-
-
-def right_nodes(picture, nodes, load):
-    wanted = []
-    for (number, node), row in zip(nodes.items(), load):
-        _, mode, online, taken, _ = row.split(",")
-        told = (f"node {number}: fault domain {node.fault}, upgrade domain {node.upgrade}, {mode}, "
-                f"{'online' if online == 'yes' else 'not online'}, load {taken} of {node.slots} slots")
-        wanted.append((f"node-{number}", told, [mode] + ["offline"] * (online == "no")))
-    return sorted(titles(picture, "node")) == sorted(wanted)
-
-
-def right_stripes(picture, risk, narrow, most=40):
-    wanted = []
-    for row in risk[:most]:
-        number, level, margin, mask = row.split(",")
-        code = "narrow" if int(number) in narrow else "wide"
-        missing = " ".join(map(str, members(int(mask, 16))))
-        wanted.append((f"stripe-{number}", f"stripe {number}: {code}, {level}, margin {margin}, missing {missing}", []))
-    more = [text.text for text in picture.iter(SVG + "text") if text.text.startswith("and ")]
-    told = f"and {len(risk) - most:,} more: "
-    return titles(picture, "stripe") == wanted and (more[0].startswith(told) if len(risk) > most else more == [])
-
-
-def fragments_of(group):
-    """The fragments that a stripe is drawn with, and those of them that are drawn as missing."""
-    drawn = [text for text in group.iter(SVG + "text") if "fragment" in text.get("class")]
-    return [int(text.text) for text in drawn], [int(text.text) for text in drawn if "absent" in text.get("class")]
-
-
-def right_fragments(picture, risk, narrow):
-    """Each stripe has its code as a word and the fragments of its code, and the missing ones are marked; a fragment of the same
-    group has the same columns in every stripe."""
-    masks = {f"stripe-{row.split(',')[0]}": int(row.split(",")[3], 16) for row in risk}
-    for group, _, _ in groups(picture):
-        if group.get("class") != "stripe":
-            continue
-        code = rules.NARROW if int(group.get("id").split("-")[1]) in narrow else rules.WIDE
-        drawn, missing = fragments_of(group)
-        words = [text.text for text in group.iter(SVG + "text")]
-        boxes = [float(box.get("x")) for box in group.iter(SVG + "rect") if box.get("class") in ("here", "missing")]
-        wanted = [boxes[0] + column * 17 + 8 * ((column > 5) + (column > 11) + (column > 13)) for column in COLUMNS[code.name]]
-        if drawn != code.fragments or boxes != wanted:
-            return False
-        if missing != [fragment for fragment in drawn if masks[group.get("id")] >> fragment & 1]:
-            return False
-        if [word for word in words if word in COLUMNS] != [code.name]:
-            return False
-    return True
 
 
 def right_places(picture):
@@ -154,73 +77,207 @@ def right_places(picture):
                    for at, a in enumerate(tiles) for b in tiles[:at])
 
 
-def look(count, name, ran, nodes, output, narrow=(), most=40):
-    """Checks a picture against the nodes of its bundle, the tables of its output and its stripes of the narrow code."""
-    count.check(f"{name}: drawn", ran.returncode == 0 and ran.stderr == b"")
+def titles(picture, kind):
+    """The ids and the titles of the nodes, or of the stripes, in the order of the picture."""
+    found = [group for group, _, _ in groups(picture) if group.get("class").split()[0] == kind]
+    return [(group.get("id"), group.find(SVG + "title").text, group.get("class").split()[1:]) for group in found]
+
+
+def words_of(row):
+    return ["full"] * (row["load"] == row["slots"]) + [word for word in ("down", "upgrading") if row[word] == "yes"]
+
+
+def right_nodes(picture, nodes):
+    wanted = []
+    for row in nodes:
+        matter = [row["mode"], *words_of(row)]
+        told = (f"node {row['node']}: fault domain {row['fault']}, upgrade domain {row['upgrade']}, {', '.join(matter)}, "
+                f"{'online' if row['online'] == 'yes' else 'not online'}, {row['homes']} homes and {row['targets']} targets in "
+                f"{row['slots']} slots")
+        wanted.append((f"node-{row['node']}", told, matter))
+    return sorted(titles(picture, "node")) == sorted(wanted)
+
+
+def right_marks(picture, nodes):
+    """A tile is filled by what its node holds, the targets apart, and has a mark for each thing that is the matter."""
+    rows = {f"node-{row['node']}": row for row in nodes}
+    for group, _, _ in groups(picture):
+        if group.get("class").split()[0] != "node":
+            continue
+        row = rows[group.get("id")]
+        heights = {box.get("class"): float(box.get("height")) for box in group.iter(SVG + "rect")}
+        filled = heights["fill"] + heights["targets"]
+        drawn = {path.get("class") for path in [*group.iter(SVG + "path"), *group.iter(SVG + "rect")]}
+        marks = {"hatch": row["mode"] == "draining", "cross": row["mode"] == "gone", "full-mark": row["load"] == row["slots"],
+                 "barred": row["down"] == "yes", "arrow": row["upgrading"] == "yes"}
+        if {mark for mark, is_met in marks.items() if is_met} != drawn & marks.keys():
+            return False
+        if abs(filled - 34 * int(row["load"]) / int(row["slots"])) > 2 or (heights["targets"] > 0) > (row["targets"] != "0"):
+            return False
+    return True
+
+
+def at_risk(stripes):
+    """The stripes that are not whole, in the order of repair."""
+    rows = [row for row in stripes if row["level"] != "whole"]
+    return sorted(rows, key=lambda row: (4 if row["margin"] == "-" else int(row["margin"]), int(row["stripe"])))
+
+
+def leased_of(leases, row):
+    return " ".join(lease["fragment"] for lease in leases if lease["stripe"] == row["stripe"])
+
+
+def right_stripes(picture, stripes, leases, most=40):
+    wanted, risk = [], at_risk(stripes)
+    for row in risk[:most]:
+        words = [row["missing_fragments"], row["homeless_fragments"] or "none", leased_of(leases, row) or "none"]
+        told = "stripe {stripe}: {code}, {level}, margin {margin}, ".format(**row)
+        told += "missing {}, homeless {}, leased {}".format(*words)
+        wanted.append((f"stripe-{row['stripe']}", told, []))
+    more = [text.text for text in picture.iter(SVG + "text") if text.text and text.text.startswith("and ")]
+    told = f"and {len(risk) - most:,} more: "
+    return titles(picture, "stripe") == wanted and (more[0].startswith(told) if len(risk) > most else more == [])
+
+
+def right_fragments(picture, stripes, leases):
+    """Each stripe has its code as a word and the fragments of its code, each in the columns of its group; what is homeless, offline
+    and leased is drawn so."""
+    rows = {f"stripe-{row['stripe']}": row for row in stripes}
+    for group, _, _ in groups(picture):
+        if group.get("class") != "stripe":
+            continue
+        row = rows[group.get("id")]
+        code = CODES[row["code"]]
+        words = [text.text for text in group.iter(SVG + "text")]
+        drawn = [int(text.text) for text in group.iter(SVG + "text") if "fragment" in text.get("class")]
+        boxes = [box for box in group.iter(SVG + "rect") if box.get("class") in ("here", "homeless", "away")]
+        edges = [float(box.get("x")) for box in boxes]
+        wanted = [edges[0] + column * 17 + 8 * ((column > 5) + (column > 11) + (column > 13)) for column in COLUMNS[code.name]]
+        missing, homeless = set(row["missing_fragments"].split()), set(row["homeless_fragments"].split())
+        kinds = ["homeless" if str(it) in homeless else "away" if str(it) in missing else "here" for it in code.fragments]
+        rings = sorted(float(ring.get("cx")) for ring in group.iter(SVG + "circle"))
+        leased = sorted(edges[code.fragments.index(int(it))] + 8.5 for it in leased_of(leases, row).split())
+        if drawn != code.fragments or edges != wanted or [box.get("class") for box in boxes] != kinds or rings != leased:
+            return False
+        if [word for word in words if word in COLUMNS] != [code.name]:
+            return False
+    return True
+
+
+def right_words(picture, nodes, status):
+    """What is told above the picture."""
+    texts = [text.text for text in picture.iter(SVG + "text")]
+    modes = Counter(row["mode"] for row in nodes)
+    held, slots = (sum(int(row[name]) for row in nodes) for name in ("load", "slots"))
+    counts = [sum(row[name] == it for row in nodes) for name, it in (("online", "no"), ("down", "yes"))]
+    full = sum("full" in words_of(row) for row in nodes)
+    told = [f"Nodes: {len(nodes)} ({modes['active']} active, {modes['draining']} draining, {modes['gone']} gone), {counts[0]} of "
+            f"them not online ({counts[1]} down), {full} full. Slots: {held:,} of {slots:,} held."]
+    if status:
+        it = {row["name"]: row["value"] for row in status}
+        domain = "no domain is" if it["upgrading"] == "none" else f"upgrade domain {it['upgrading']} is"
+        told.append(f"After entry {int(it['entries']):,}, at clock {int(it['clock']):,}: {int(it['stripes']):,} stripes, {domain} "
+                    f"upgrading, {int(it['leases']):,} leases under way.")
+    return all(words in texts for words in told)
+
+
+def right_room(picture, nodes):
+    """A grid has cells for at most half as many nodes again. (Boxes have a name each.)"""
+    texts = [text.text for text in picture.iter(SVG + "text")]
+    if any((text or "").startswith("Boxes are") for text in texts):
+        named = [int(text.split(" ")[1]) for text in texts if re.fullmatch("fault [0-9]+", text or "")]
+        return named == sorted({int(row["fault"]) for row in nodes})
+    return len({row["fault"] for row in nodes}) * len({row["upgrade"] for row in nodes}) <= 1.5 * len(nodes)
+
+
+def parsed(count, name, ran):
+    count.check(f"{name}: drawn: {ran.stderr}", ran.returncode == 0 and ran.stderr == b"")
     try:
-        picture = ElementTree.fromstring(ran.stdout)
+        return ElementTree.fromstring(ran.stdout)
     except ElementTree.ParseError:
-        return count.check(f"{name}: well-formed", False)
-    risk, load = tables_of(output)
-    count.check(f"{name}: its nodes", right_nodes(picture, nodes, load))
-    count.check(f"{name}: its stripes at risk", right_stripes(picture, risk, narrow, most))
-    count.check(f"{name}: its fragments", right_fragments(picture, risk, narrow))
+        count.check(f"{name}: well-formed", False)
+        return None
+
+
+def look(count, name, ran, tables, most=40):
+    """Checks a picture against its tables."""
+    picture = parsed(count, name, ran)
+    if picture is None:
+        return
+    nodes, stripes, status, leases = (rows_of(tables.get(view, "")) if tables.get(view) else [] for view in VIEWS)
+    count.check(f"{name}: its nodes", right_nodes(picture, nodes))
+    count.check(f"{name}: its marks", right_marks(picture, nodes))
+    count.check(f"{name}: its stripes at risk", right_stripes(picture, stripes, leases, most))
+    count.check(f"{name}: its fragments", right_fragments(picture, stripes, leases))
+    count.check(f"{name}: its words", right_words(picture, nodes, status))
     count.check(f"{name}: its places", right_places(picture))
+    count.check(f"{name}: its room", right_room(picture, nodes))
+
+
+def right_load(picture, nodes):
+    """Each histogram with its counts, and bars as high as they say."""
+    wanted = []
+    there = [row for row in nodes if row["mode"] != "gone"]
+    faults = sorted({int(row["fault"]) for row in there})
+    racks = [(f"fault {it}", [row for row in there if row["fault"] == str(it)]) for it in faults]
+    for words, rows in [("all nodes", there), *racks]:
+        bins = Counter(min(19, 20 * int(row["load"]) // int(row["slots"])) for row in rows)
+        held, slots = (sum(int(row[name]) for row in rows) for name in ("load", "slots"))
+        told = ", ".join(f"{5 * at} to {5 * at + 5} %: {bins[at]}" for at in sorted(bins))
+        wanted.append((f"{words}: {len(rows)} nodes, share {100 * held / slots:.1f} %; {told}", [bins[at] for at in sorted(bins)]))
+    found = []
+    for group, _, _ in groups(picture):
+        if group.get("class") == "shares":
+            bars = [float(box.get("height")) for box in group.iter(SVG + "rect")]
+            counts = [int(text.text) for text in group.iter(SVG + "text") if text.get("class") == "middle under"]
+            found.append((group.find(SVG + "title").text, counts))
+            if any(abs(bar * counts[0] - bars[0] * it) > 0.1 * (it + counts[0]) for bar, it in zip(bars, counts, strict=True)):
+                return False
+    return found == wanted
+
+
+def look_at_load(count, name, folder, tables):
+    of_nodes = {view: tables[view] for view in tables if view in ("nodes", "status")}
+    picture = parsed(count, f"{name}, --load", draw(folder, of_nodes, "--load"))
+    if picture is not None:
+        count.check(f"{name}: its shares", right_load(picture, rows_of(tables["nodes"])))
+        count.check(f"{name}, --load: its places", right_places(picture))
+
+
+def tables_of(store, entries):
+    """The tables of a store, as the model makes them."""
+    return {view: shown.shown(view, store, entries) for view in VIEWS}
+
+
+def shown_by(program, name):
+    """The tables of an example, as the program prints them."""
+    bundle = example(name)
+    return {view: subprocess.run([program, "show", view], input=bundle, capture_output=True).stdout.decode() for view in VIEWS}
 
 
 def examples(count, folder, program):
     for name in EXAMPLES:
-        bundle = example(name)
-        output = run_bundle(program, bundle).stdout
-        if b"\nrisk\n" not in output:
-            count.check(f"{name}: tables in the output of the program", False)
-            continue
-        nodes, scripts = parts_of(bundle)
-        narrow = narrow_in(scripts)
-        look(count, name, draw(folder, bundle, output), nodes, output, narrow)
-        look(count, f"{name}, one row", draw(folder, bundle, output, "--rows", "1"), nodes, output, narrow, 1)
+        tables = shown_by(program, name)
+        look(count, name, draw(folder, tables), tables)
+        look(count, f"{name}, one row", draw(folder, tables, "--rows", "1"), tables, 1)
+        look(count, f"{name}, in another order", draw(folder, dict(reversed(tables.items()))), tables)
+        two = {view: tables[view] for view in ("nodes", "stripes")}
+        look(count, f"{name}, two tables", draw(folder, two), two)
+        look(count, f"{name}, CRLF", draw(folder, {view: table.replace("\n", "\r\n") for view, table in tables.items()}), tables)
+        look_at_load(count, name, folder, tables)
 
 
-def spellings(bundle):
-    """Yields names and bundles that mean the same: with other ends of lines in the topology, and with a byte order mark."""
-    topology, script = bundle.split(b"\n%%\n")
-    returns = topology.replace(b"\n", b"\r\n")
-    yield "CRLF", returns + b"\r\n%%\n" + script
-    yield "a byte order mark", BOM + bundle
-    yield "CRLF and a byte order mark", BOM + returns + b"\r\n%%\n" + script
-    yield "some CRLF", bundle.replace(b"\n", b"\r\n", 7)
-    yield "a comment with the mark", bundle.replace(b"\n%%\n", b"\n# c\n#%%\n%%\n")
-
-
-def spelled(count, folder, program):
-    bundle = example("node_unreachable")
-    nodes = parts_of(bundle)[0]
-    right = run_bundle(program, bundle).stdout
-    for name, spelling in spellings(bundle):
-        output = run_bundle(program, spelling).stdout
-        if count.check(f"{name}: the program takes it as it is", output == right):
-            look(count, name, draw(folder, spelling, output), nodes, output)
-    topology = harness.split(bundle)[0]
-    for name, alone in (("no script", topology), ("CRLF and no script", topology.replace(b"\n", b"\r\n"))):
-        output = run_bundle(program, alone).stdout
-        look(count, name, draw(folder, alone, output), nodes, output)
-
-
-def sequels(count, folder, program):
-    """A run that is cut in two: its end, from an image on, is drawn as the whole run, under whatever code its stripes are."""
-    for name in EXAMPLES:
-        bundle = example(name)
-        nodes, scripts = parts_of(bundle)
-        topology = harness.split(bundle)[0]
-        image = subprocess.run([program, "image"], input=bundle, capture_output=True).stdout
-        sequel = image + topology + b"%%\nnext\n"
-        output = subprocess.run([program, "resume"], input=sequel, capture_output=True).stdout
-        if count.check(f"{name}: the sequel runs", b"\nrisk\n" in output):
-            look(count, f"{name}, a sequel", draw(folder, sequel, output), nodes, output, narrow_in(scripts))
-        without_end = sequel.replace(b"\nend\n", b"\n", 1)
-        count.check(f"{name}: an image without an end: refused", refused(draw(folder, without_end, output)))
-        told = subprocess.run([program, "resume"], input=without_end, capture_output=True).stdout
-        count.check(f"{name}: a refused sequel: refused", refused(draw(folder, sequel, told)))
+def drawn(count, folder):
+    """Stores of drawn calls, with every mode and level and with leases under way."""
+    for seed in range(DRAWN):
+        row, nodes = draws.numbers(seed), harness.nodes_in_order(24, 3)
+        store, within, calls = Store(nodes), draws.Range(8, [*nodes, 99], [*range(10), 77]), []
+        for _ in range(60 + 3 * seed):
+            calls.append(draws.drawn_call(store, row, within))
+            store.call(*calls[-1])
+        tables = tables_of(store, len(calls))
+        look(count, f"store {seed}", draw(folder, tables), tables)
+        look_at_load(count, f"store {seed}", folder, tables)
 
 
 def wide_topologies():
@@ -237,134 +294,121 @@ def wide_topologies():
 
 
 def all_stripes():
-    """A risk table of all 4,096 stripes, of every level but whole."""
-    levels = ["unavailable", "lost"]
-    return ([f"{stripe},risk,{margin},{1 + stripe:04x}" for margin in range(3) for stripe in range(margin, 3000, 3)]
-            + [f"{stripe},{levels[stripe % 2]},-,ffff" for stripe in range(3000, 4096)])
+    """A table of 4,096 stripes, of every level, narrow and wide."""
+    row, store, lines = random.Random(1), {"wide": WIDE, "narrow": NARROW}, [STRIPES]
+    for number in range(4096):
+        code = store["narrow" if number % 3 == 2 else "wide"]
+        missing = sum({1 << row.choice(code.fragments) for _ in range(row.randrange(7))})
+        homeless = missing & row.choice([0, missing, row.randrange(65536)])
+        margin = shown.rules.margin(code, missing)
+        is_lost = not shown.rules.is_recoverable(code, homeless)
+        level = "lost" if is_lost else "unavailable" if margin is None else "risk" if missing else "whole"
+        homes = ["-" if homeless >> it & 1 else "0:0" for it in code.fragments] + [""] * (16 - len(code.fragments))
+        fields = [number, code.name, level, "-" if margin is None else margin, *shown.mask(missing), *shown.mask(homeless), *homes]
+        lines.append(",".join(map(str, fields)))
+    return "\n".join([*lines, ""])
 
 
-def all_places():
-    """Places all stripes, every third of those by the narrow code whose missing fragments are among its ten."""
-    return [f"{'place6' if stripe % 3 == 2 and stripe < 1023 else 'place'} {stripe}" for stripe in range(4096)]
-
-
-def some_load(nodes):
-    """A load table with every mode, online and not."""
-    modes = ["active,yes", "active,no", "draining,yes", "draining,no", "gone,no"]
-    return [f"{number},{modes[at % 5]},{0 if at % 5 == 4 else at % (node.slots + 1)},{node.slots}"
-            for at, (number, node) in enumerate(nodes.items())]
+def some_nodes(nodes):
+    """A table of nodes with every mode, online and not, full and not."""
+    lines = [NODES]
+    for at, (number, node) in enumerate(nodes.items()):
+        mode, down, upgrading = ("active", "active", "draining", "draining", "gone")[at % 5], at % 5 in (1, 3), at % 7 == 0
+        targets = 0 if at % 5 == 4 else at % 2 * (at % (node.slots + 1) > 0)
+        load = 0 if at % 5 == 4 else at % (node.slots + 1)
+        flags = map(shown.yes, (down, upgrading, mode != "gone" and not down and not upgrading))
+        fields = [number, node.fault, node.upgrade, mode, *flags, load - targets, targets, load, node.slots]
+        lines.append(",".join(map(str, fields)))
+    return "\n".join([*lines, ""])
 
 
 def wide(count, folder):
-    places = all_places()
+    stripes = all_stripes()
     for name, nodes in wide_topologies():
-        bundle, output = bundle_of(nodes, places), output_of(all_stripes(), some_load(nodes), places)
-        look(count, name, draw(folder, bundle, output, "--rows", "1500"), nodes, output, narrow_in([places]), 1500)
-    nodes, output = ONE_NODE, output_of(RISK, ["0,active,yes,0,4"])
-    odd = 'a<b>&"\x01 c.bundle'
-    ran = draw(folder, bundle_of(nodes), output, name=odd)
-    look(count, "a name with odd letters", ran, nodes, output, {2})
-    count.check("a name with odd letters is shown", 'a&lt;b&gt;&amp;"'.encode() in ran.stdout)
+        tables = {"nodes": some_nodes(nodes), "stripes": stripes}
+        look(count, name, draw(folder, tables, "--rows", "1500"), tables, 1500)
+        look_at_load(count, name, folder, tables)
+    tables = {"nodes": some_nodes({0: Node(0, 0, 4)}), "stripes": STRIPES + "\n"}
+    ran = draw(folder, tables, "--title", 'a<b>&"\x01 c')
+    look(count, "a title with odd letters", ran, tables)
+    count.check("a title with odd letters is shown", 'a&lt;b&gt;&amp;"'.encode() in ran.stdout)
 
 
-def placings():
-    """Yields names, the scripts of a bundle and their replies, and whether stripe 1 is narrow then."""
-    wide, narrow = placed(rules.WIDE), placed(rules.NARROW)
-    yield "placed anew as wide", [["place6 1", "drop 1", "place 1"]], [[f"1 {narrow}", "2 dropped", f"3 {wide}"]], False
-    yield "placed anew as narrow", [["place 1", "drop 1", "place6 1"]], [[f"1 {wide}", "2 dropped", f"3 {narrow}"]], True
-    yield "refused as narrow", [["place 1", "place6 1"]], [[f"1 {wide}", "2 refused 102"]], False
-    yield "refused as wide", [["place 1", "# c", "", "place6 1"]], [["1 refused 103 12", f"2 {narrow}"]], True
-    scripts = [["place 1"], ["place6 1", "drop 1"]]
-    yield "two scripts, wide last", scripts, [[f"3 {wide}"], [f"1 {narrow}", "2 dropped"]], False
-    scripts = [["place 1", "drop 1"], ["place6 1"]]
-    yield "two scripts, narrow last", scripts, [[f"1 {wide}", "2 dropped"], [f"3 {narrow}"]], True
-    yield "two scripts, one of them empty", [[], ["place6 1"]], [[], [f"1 {narrow}"]], True
-
-
-def codes(count, folder):
-    """The code of a stripe is that of its last placing, in whatever script."""
-    for name, scripts, replies, is_narrow in placings():
-        told = [line for number, lines in enumerate(replies, 1) for line in (f"script {number}", *lines)]
-        bundle = harness.bundle_of(ONE_NODE, scripts).encode()
-        output = "\n".join([*told, *tables(["1,risk,1,0003"], ["0,active,yes,0,4"])]).encode()
-        look(count, name, draw(folder, bundle, output), ONE_NODE, output, {1} if is_narrow else ())
+NODE = "0,0,0,active,no,no,yes,0,0,0,4"
+STRIPE = "7,wide,risk,2,0x0001,0,0x0001,0,-" + ",0:0" * 15
+STATUS = "name,value\nstripes,1\nleases,0\nclock,3\nentries,9\nupgrading,none\n"
+LEASES = "stripe,fragment,holder,target,epoch,expiry\n"
+# A row of a table in place of the right one, and where and why it is refused.
+BAD_ROWS = [
+    ("nodes", "0,0,0,active,no,no,yes,0,0,0", "nodes.csv: line 2: 10 fields, and not 11"),
+    ("nodes", "0,0,0,active,no,no,yes,5,0,5,4", "nodes.csv: line 2, column homes: not a number of its range, 0 to 4: '5'"),
+    ("nodes", "0,0,0,active,yes,no,yes,0,0,0,4", "nodes.csv: line 2, column online: not what mode, down and upgrading say: 'yes'"),
+    ("stripes", STRIPE.replace("7,", "4096,", 1),
+     "stripes.csv: line 2, column stripe: not a number of its range, 0 to 4095: '4096'"),
+    ("stripes", STRIPE.replace("risk", "Risk"),
+     "stripes.csv: line 2, column level: none of whole, risk, unavailable, lost: 'Risk'"),
+    ("stripes", STRIPE.replace("risk,2", "risk,1"), "stripes.csv: line 2, column margin: not that of the missing fragments: '1'"),
+    ("stripes", STRIPE.replace("risk,2", "whole,2"), "stripes.csv: line 2, column margin: not that of the missing fragments: '2'"),
+    ("stripes", STRIPE.replace("risk,2", "risk,-"), "stripes.csv: line 2, column margin: not that of the missing fragments: '-'"),
+    ("stripes", STRIPE.replace("0x0001", "0001", 1),
+     "stripes.csv: line 2, column missing: no set of fragments of a wide stripe: '0001'"),
+    ("stripes", STRIPE.replace("wide", "narrow").replace("0x0001", "0x0400", 1),
+     "stripes.csv: line 2, column missing: no set of fragments of a narrow stripe: '0x0400'"),
+    ("stripes", STRIPE.replace("0,0x0001", "0,0x0003"),
+     "stripes.csv: line 2, column homeless: not among the missing fragments: '0x0003'"),
+    ("stripes", f"{STRIPE}\n{STRIPE}", "stripes.csv: line 3, column stripe: a stripe that is there twice: '7'"),
+    ("leases", "7,16,1,0:0,1,3", "leases.csv: line 2, column fragment: not a number of its range, 0 to 15: '16'"),
+    ("status", "stripes,2\nleases,0\nclock,3\nentries,9\nupgrading,none",
+     "the tables are not of one state: the status has 2 stripes, and there are 1"),
+    ("status", "stripes,1\nleases,x\nclock,3\nentries,9\nupgrading,none",
+     "status.csv: line 3, column value: not a number of its range, 0 to 9223372036854775807: 'x'"),
+    ("status", "stripes,1\nleases,0\nclock,3\nupgrading,none", "status.csv: there is no row entries"),
+    ("status", "stripes,1\nleases,0\nclock,3\nentries,9\nupgrading,256",
+     "status.csv: line 6, column value: not a number of its range, 0 to 255: '256'"),
+]
 
 
 def refusals():
-    """Yields what is wrong, a bundle, and an output."""
-    nodes = {number: Node(number, number, 4) for number in range(3)}
-    bundle, risk = bundle_of(nodes), RISK
-    load = [f"{number},active,yes,1,4" for number in range(3)]
-    yield "a node without a row", bundle, output_of(risk, load[:1] + load[2:])
-    yield "the last node without a row", bundle, output_of(risk, load[:2])
-    yield "a row too many", bundle, output_of(risk, load + ["3,active,yes,1,4"])
-    yield "rows in another order", bundle, output_of(risk, load[::-1])
-    yield "a row twice", bundle, output_of(risk, load[:1] + load)
-    for row in ("0,active,yes,1,5", "0,active,yes,5,4", "0,idle,yes,1,4", "0,active,maybe,1,4", "0,gone,yes,0,4",
-                "0,active,yes,01,4", "0,active,yes,1", "0,active,yes,1,4,", "0,active,yes,-1,4", ""):
-        yield f"the load row '{row}'", bundle, output_of(risk, [row] + load[1:])
-    for row in ("1,risk,-,0001", "1,lost,0,000f", "1,whole,0,0001", "1,risk,3,0001", "1,risk,2,001", "1,risk,2,000E",
-                "1,risk,2,0000", "4096,risk,2,0001", "01,risk,2,0001", "1,risk,2", "1,risk,2,0001,", "1,risk,0,0001", ""):
-        yield f"the risk row '{row}'", bundle, output_of(risk + [row], load)
-    yield "a stripe twice", bundle, output_of(risk + ["7,risk,2,0001"], load)
-    yield "a stripe that was not placed", bundle, output_of(risk + ["3,risk,2,0001"], load)
-    yield "a stripe that the bundle does not place", bundle_of(nodes, ("place 7", "next", "place 1")), output_of(risk, load)
-    for row in ("2,risk,2,0400", "2,lost,-,ffff"):
-        yield f"a narrow stripe with the row '{row}'", bundle, output_of(risk[:1] + [row], load)
-    yield "a command without a reply", bundle_of(nodes, (*PLACES, "next")), output_of(risk, load)
-    yield "a reply too many", bundle_of(nodes, PLACES[:2]), output_of(risk, load)
-    yield "no replies", bundle, output_of(risk, load, ())
-    yield "a reply without its place", bundle, output_of(risk, load).replace(b"3 placed", b"placed")
-    yield "a script without its heading", bundle, output_of(risk, load).replace(b"script 1\n", b"")
-    yield "no tables", bundle, b"script 1\n"
-    yield "an empty output", bundle, b""
-    yield "an output without its end", bundle, output_of(risk, load)[:-1]
-    yield "a header is missing", bundle, output_of(risk, load).replace(b"stripe,level,margin,missing\n", b"")
-    yield "a run that was refused", bundle, b"line 17 cause 1\n"
-    yield "no TOML", b"[[node]]\nnumber = ", output_of(risk, load)
-    yield "no UTF-8", b"\xff", output_of(risk, load)
-    yield "a second byte order mark", 2 * BOM + bundle, output_of(risk, load)
-    yield "a carriage return alone", bundle.replace(b"\n", b"\r", 1), output_of(risk, load)
-    yield "a carriage return after the mark", bundle + b"%%\r\n", output_of(risk, load)
-    yield "no nodes", b"", output_of(risk, load)
-    yield "a number out of its range", bundle.replace(b"slots = 4", b"slots = 0", 1), output_of(risk, load)
-    yield "a truth for a number", bundle.replace(b"fault = 1", b"fault = true", 1), output_of(risk, load)
-    yield "a number twice", bundle.replace(b"number = 2", b"number = 1", 1), output_of(risk, load)
-
-
-def refused(ran):
-    one_line = ran.stderr.startswith(b"tools/picture: ") and ran.stderr.count(b"\n") == 1
-    return ran.returncode == 2 and ran.stdout == b"" and one_line
+    """Yields tables, the words before them, and why they are refused."""
+    right = {"nodes": f"{NODES}\n{NODE}\n", "stripes": f"{STRIPES}\n{STRIPE}\n", "status": STATUS, "leases": LEASES}
+    for view, row, why in BAD_ROWS:
+        yield right | {view: f"{right[view].splitlines()[0]}\n{row}\n"}, [], why
+    yield {"nodes": right["nodes"]}, [], "there is no table of `show stripes`"
+    yield {"stripes": right["stripes"]}, [], "there is no table of `show nodes`"
+    yield {"stripes": right["stripes"]}, ["--load"], "there is no table of `show nodes`"
+    yield right | {"other": "a,b\n"}, [], "other.csv: line 1: this is no table of nodes, stripes, status or leases"
+    yield right | {"other": ""}, [], "other.csv: line 1: this is no table of nodes, stripes, status or leases"
+    yield right | {"other": right["nodes"]}, [], "other.csv: nodes.csv is such a table too"
+    yield right | {"nodes": f"{NODES}\n"}, [], "nodes.csv: the table has no nodes"
 
 
 def refuse(count, folder):
-    for name, bundle, output in refusals():
-        count.check(f"{name}: refused", refused(draw(folder, bundle, output)))
-    for words in ([], ["a"], ["a", "b", "c"], ["--rows", "x", "a", "b"], ["--rows", "-1", "a", "b"], [folder, folder]):
+    for tables, words, why in refusals():
+        ran = draw(folder, tables, *words)
+        is_line = ran.stderr.decode() == f"tools/picture: {why}\n"
+        count.check(f"{why}: {ran.stderr}", ran.returncode == 2 and ran.stdout == b"" and is_line)
+    for words in ([], ["--rows", "x", "a"], ["--rows", "-1", "a"], [folder], ["nothing-is-here"], ["--loads", "a"]):
         ran = subprocess.run([PICTURE, *words], capture_output=True)
-        count.check(f"the words {words}: refused", refused(ran))
+        is_line = ran.stderr.startswith(b"tools/picture: ") and ran.stderr.count(b"\n") == 1
+        count.check(f"the words {words}: {ran.stderr}", ran.returncode == 2 and ran.stdout == b"" and is_line)
     ran = subprocess.run([PICTURE, "--help"], capture_output=True)
-    count.check("--help", ran.returncode == 0 and b"BUNDLE" in ran.stdout)
+    count.check("--help", ran.returncode == 0 and b"TABLE" in ran.stdout)
 
 
-def shipped(count):
+def shipped(count, folder, program):
     """The picture of README is the one that tools/picture draws of its example."""
-    name = f"{harness.TOP}/examples/each_mode_and_level"
-    ran = subprocess.run([PICTURE, f"{name}.bundle", f"{name}.out"], capture_output=True)
-    with open(f"{harness.TOP}/docs/store.svg", "rb") as file:
-        count.check("docs/store.svg", ran.returncode == 0 and ran.stdout == file.read())
+    ran = draw(folder, shown_by(program, "each_mode_and_level"), "--title", "each_mode_and_level")
+    count.check("docs/store.svg", ran.returncode == 0 and ran.stdout == harness.read(f"{harness.TOP}/docs/store.svg"))
 
 
 def main(words):
     program, count = harness.program_of(words), harness.Count()
     with tempfile.TemporaryDirectory() as folder:
         examples(count, folder, program)
-        spelled(count, folder, program)
-        sequels(count, folder, program)
-        codes(count, folder)
+        drawn(count, folder)
         wide(count, folder)
         refuse(count, folder)
-    shipped(count)
+        shipped(count, folder, program)
     return count.report()
 
 

@@ -5,19 +5,31 @@ Usage: tests/program/recipes [PROGRAM], by default the program that `rt ci` or `
 - The recipe that makes a file shorter is run three days in a row. After each day the topology is the one of the first day,
   each table of `show` is that of the whole history, and `resume` of the day's file prints the replies and tables that `run`
   of the whole history prints for the day's commands. A file that is refused is left as it was.
+- The functions of "A month" are run on three days in a row, on a store on which things go wrong: they print what the model of
+  tests/model has, and leave the store as the model is after the same commands.
+- The table of "How much fits" is that of thirty drawn topologies, by the model, and the program refuses the same stripe of each.
+- What `docs/lrcman.bash` completes are the words of the usage, tables that the program shows, and the words for domains. The
+  manual page has the words of docs/FORMATS.md for each line of refused input.
 - Each other recipe has to end well on the file of a small store, and to print what is said of it below.
 The last line is 'N passed, M failed'."""
+import copy
 import os
+import random
 import re
+import statistics
 import subprocess
 import sys
 import tempfile
 
 from tests import harness
 from tests.harness import TOP, example, read
+from tests.model import shown
+from tests.model.rules import Node
+from tests.model.shown import VIEWS
+from tests.model.store import Store
 
 RENEWAL = "lrcman image < store.sequel"
-VIEWS = ("status", "stripes", "nodes", "leases", "work")
+KINDS = "24", "12 to 36", "6 to 48"  # of topologies, by the slots of their nodes
 DAYS = (
     ["place 1", "place6 2", "fail 3", "lease 1 3", "tick"],
     ["done 1 3 1", "next", "down 5", "tick", "place 3"],
@@ -31,9 +43,13 @@ PRINTS = {
     "lrcman may-stop 2 3 < store.bundle > forecast.csv": "nodes 2 and 3 may be stopped\n",
     "{ cat store.bundle; echo 'upgrade 0'; } | lrcman run > answer.out || { cat answer.out >&2; exit 1; }": "",
     "lrcman show stripes < store.bundle > before.csv && { cat store.bundle; echo 'fail 3'; } | lrcman show stripes > after.csv || exit 1": None,
-    "lrcman run < store.bundle > store.out || { cat store.out >&2; exit 1; }": "",
+    "for table in nodes stripes status leases; do lrcman show $table < store.bundle > $table.csv || exit 1; done": "",
     "lrcman show stripes < store.bundle > stripes.csv || exit 1": "",
+    "lrcman show nodes < nodes.toml > nodes.csv || exit 1": "",
+    "for table in nodes stripes leases; do lrcman show $table < store.sequel > $table.csv || exit 1; done": None,
 }
+# A store that is taken over, by tools/takeover: one stripe, of whose fragments 12 is in the upgrade domain of 5.
+TAKEN_OVER = [0, 1, 2, 3, 4, 5, 6, 7, 8, 9, 10, 11, 15, 12, 13, 14]
 
 
 def recipes():
@@ -99,23 +115,186 @@ def renew(count, shell, recipe):
     count.check(f"a refused file is told as {ran.stderr!r}", re.fullmatch(r"lrcman: .*: line [0-9]+ cause 3\n", ran.stderr))
 
 
+def harmed_by(store, domain):
+    """The rows of the stripes that an upgrade of a domain would harm."""
+    table, _ = shown.forecast("may-stop", store, [node for node in store.nodes if store.nodes[node].upgrade == domain])
+    return [line for line in table.splitlines() if line.endswith(",yes")]
+
+
+class Month:
+    """A store with the functions of the page, and the model beside it."""
+
+    def __init__(self, count, program, folder):
+        self.count, self.shell, self.store, self.made = count, Shell(program, folder), Store(harness.nodes_in_order(20, 4)), 0
+        self.functions = "".join(recipe for recipe in recipes() if re.match(r"\w+\(\) \{\n", recipe))
+        self.shell.write("store.sequel", harness.topology_of(self.store.nodes).encode() + b"%%\n")
+
+    def run(self, call, printed, commands=(), status=0):
+        """A function prints this, and makes these commands."""
+        ran = self.shell.run(f"{self.functions}{call}")
+        replies = [self.store.call(1, command) for command in commands]
+        wanted = "".join(f"{line}\n" for line in printed)
+        self.made += len(commands)
+        self.count.check(f"{call}: {ran.returncode} {ran.stdout!r} {ran.stderr}", (ran.returncode, ran.stdout) == (status, wanted))
+        table = self.shell.lrcman("show nodes", self.shell.read("store.sequel")).stdout.decode()
+        self.count.check(f"{call}: another store, after {replies}", table == shown.shown("nodes", self.store, self.made))
+
+    def replies_to(self, commands):
+        """What is printed of commands, by a copy of the model."""
+        copied = copy.deepcopy(self.store)
+        return [f"{place} {copied.call(1, command)}" for place, command in enumerate(commands, self.made + 1)]
+
+    def make(self, call, *commands):
+        """A function makes commands, and prints their replies."""
+        self.run(call, self.replies_to(commands), commands)
+
+    def tell(self, *commands):
+        self.make("tell " + " ".join(f"'{command}'" for command in commands), *commands)
+
+    def urgent(self):
+        """The rows of levels that a stripe should not have."""
+        names = "at_risk_margin_0", "unavailable", "lost"
+        return [f"{name},{value}" for name, value in shown.status_rows(self.store, 0) if name in names and value]
+
+
+def first_day(it):
+    it.tell("place 1", "place6 2", "place 3")
+    it.run("morning", [])
+    it.make("leave 5", "drain 5")
+    it.make("night 3", "upgrade 3")
+    it.run("night 4", harmed_by(it.store, 4), status=1)  # (`upgrade 3` runs)
+    it.tell("upgraded 3", "down 9")
+
+
+def second_day(it):
+    it.run("morning", ["1 nodes are down"])
+    it.run("leave 5", ["not yet empty"])
+    it.tell(*["next"] * 3, "up 9")
+    it.tell(*(f"done {stripe} {fragment} {lease.epoch}" for (stripe, fragment), lease in sorted(it.store.leases.items())))
+    it.make("leave 5", "retire 5")
+    it.run("leave 5", [], status=1)  # (it is gone)
+    it.tell("fail 0", "fail 1", "down 2")
+
+
+def third_day(it):
+    it.run("morning", ["1 nodes are down", *it.urgent()], status=1)
+    it.run("night 3", harmed_by(it.store, 3), status=1)
+    it.count.check("nothing would be harmed on the third day", it.urgent() and harmed_by(it.store, 3))
+    it.tell("fail 3", *(f"drain {node}" for node in range(4, 20)))
+    homeless = [f"no node for {row[0]} {row[1]}" for row in shown.work_rows(it.store) if row[5] == "no_node"]
+    it.run("morning", ["1 nodes are down", *it.urgent(), *homeless], status=1)
+    it.count.check("every fragment finds a node on the third day", homeless)
+    kept = it.shell.read("store.sequel")
+    ran = it.shell.run(f"{it.functions}tell 'place x'")
+    it.count.check("a bad command is appended", ran.returncode == 1 and it.shell.read("store.sequel") == kept)
+    it.count.check(f"a bad command is told as {ran.stderr}", re.fullmatch("line [0-9]+ cause 3\n", ran.stderr))
+
+
+def month(count, program):
+    """Three days of a store on which nodes are lost, one leaves, and domains are upgraded."""
+    with tempfile.TemporaryDirectory(prefix="lrcman-recipes-") as folder:
+        it = Month(count, program, folder)
+        names = re.findall(r"^(\w+)\(\)", it.functions, re.MULTILINE)
+        count.check(f"the functions of the month are {names}", names == ["tell", "morning", "leave", "night"])
+        for day in (first_day, second_day, third_day):
+            day(it)
+
+
+def drawn_topology(seed):
+    """The kind of a topology, how many fault and upgrade domains it has, and its nodes."""
+    draw, kind = random.Random(seed), KINDS[seed % 3]
+    faults, upgrades, nodes = draw.choice([16, 17, 18, 20, 24, 30]), draw.choice([7, 8, 10, 12, 16]), {}
+    for at in range(draw.randrange(max(faults, upgrades, 40), 161)):
+        fault = at % faults if draw.random() < 0.8 or at < faults else draw.randrange(faults)
+        upgrade = (at // faults + at) % upgrades if seed % 2 else at % upgrades
+        sizes = [12, 24, 24, 36] if kind == "12 to 36" else [6, 12, 24, 48]
+        nodes[at] = Node(fault, upgrade, 24 if kind == "24" else draw.choice(sizes))
+    return kind, faults, upgrades, nodes
+
+
+def capacity(count, program):
+    """How much is held when the first wide stripe is refused, of thirty topologies."""
+    used, wide, narrow = {kind: [] for kind in KINDS}, [], []
+    for seed in range(30):
+        kind, faults, upgrades, nodes = drawn_topology(seed)
+        store, commands, replies = Store(nodes), [], ["placed"]
+        while replies[-1].startswith("placed"):
+            commands.append(f"place {len(commands)}")
+            replies.append(store.call(1, commands[-1]))
+        told = lines_of(harness.run_bundle(program, harness.bundle_of(nodes, [commands]).encode()).stdout)[0]
+        count.check(f"topology {seed}: {told[-1:]}, and not {replies[-1]}", [line.split(" ", 1)[1] for line in told] == replies[1:])
+        share = 100 * 16 * (len(commands) - 1) / sum(node.slots for node in nodes.values())
+        used[kind].append(share)
+        wide += [share] * (faults >= 20 and upgrades >= 12)
+        narrow += [share] * (faults < 20 and upgrades < 12)
+    page = read(f"{TOP}/docs/OPERATING.md").decode()
+    for kind, shares in used.items():
+        row = f"| {kind} | {min(shares):.0f} % | {statistics.median(shares):.0f} % | {max(shares):.0f} % |"
+        count.check(f"the page has not: {row}", f"\n{row}\n" in page)
+    words = f"the first refusal came at {min(wide):.0f} % at the earliest; with fewer of both it came at {min(narrow):.0f} %"
+    count.check(f"the page has not: {words}", words in " ".join(page.split()))
+
+
+def completed(words):
+    """What bash offers for the last of these words."""
+    script = (f". {TOP}/docs/lrcman.bash; COMP_WORDS=({' '.join(words)} ''); COMP_CWORD={len(words)}; _lrcman; "
+              "printf '%s\\n' \"${COMPREPLY[@]}\"")
+    return subprocess.run(["bash", "-c", script], capture_output=True, text=True, check=True).stdout.split()
+
+
+def completion(count, program):
+    usage = subprocess.run([program], capture_output=True, text=True).stderr
+    words = re.findall("^  lrcman ([a-z0-9-]+) ", usage, re.MULTILINE)
+    count.check(f"bash completes {completed(['lrcman'])}, and not {words}", words and completed(["lrcman"]) == words)
+    views = completed(["lrcman", "show"])
+    count.check(f"bash completes the tables {views}", views == [*dict.fromkeys(view.split()[0] for view in VIEWS)])
+    for view in VIEWS:
+        ran = subprocess.run([program, "show", *view.split()], input=example("node_unreachable"), capture_output=True)
+        count.check(f"the program shows no {view}", ran.returncode == 0)
+    count.check("bash completes the kinds of domains", completed(["lrcman", "show", "domains"]) == ["fault", "upgrade"])
+    for word in ("may-stop", "may-lose"):
+        offered = completed(["lrcman", word, "3"])
+        count.check(f"bash completes {offered} behind {word}", offered == ["fault", "upgrade"])
+    count.check("bash completes behind run", completed(["lrcman", "run"]) == completed(["lrcman", "show", "status"]) == [])
+
+
+def manual(count):
+    """The manual page has a line for each cause of an image, with its words."""
+    page = read(f"{TOP}/docs/lrcman.1").decode()
+    rows = re.findall(r"^\| `image N cause ([0-9]+)` \| (.*) \|$", read(f"{TOP}/docs/FORMATS.md").decode(), re.MULTILINE)
+    for cause, words in rows:
+        count.check(f"lrcman.1 has no cause {cause}: {words}", f"\n  {cause:>2}  {words}\n" in page)
+    count.check(f"FORMATS has {len(rows)} causes of an image", len(rows) == 16)
+
+
 def main(words):
     program, count = harness.program_of(words), harness.Count()
     found = recipes()
     (renewal,) = [recipe for recipe in found if RENEWAL in recipe]
     with tempfile.TemporaryDirectory(prefix="lrcman-recipes-") as folder:
         renew(count, Shell(program, folder), renewal)
-    others = {recipe.split("\n")[0]: recipe for recipe in found if recipe != renewal}
+    others = {recipe.split("\n")[0]: recipe for recipe in found if recipe != renewal and not re.match(r"\w+\(\) \{", recipe)}
     count.check(f"recipes of which nothing is said here, or that are gone: {set(others) ^ set(PRINTS)}", set(others) == set(PRINTS))
     for first, recipe in others.items():
         with tempfile.TemporaryDirectory(prefix="lrcman-recipes-") as folder:
             shell = Shell(program, folder)
             shell.write("store.bundle", example("node_unreachable"))
+            shell.write("store.sequel", example("node_unreachable"))
+            shell.write("nodes.toml", harness.split(example("node_unreachable"))[0])
+            rows = [f"1,wide,{fragment},{node},\n" for fragment, node in enumerate(TAKEN_OVER)]
+            shell.write("homes.csv", "".join(["stripe,code,fragment,node,slot\n", *rows]).encode())
             ran, wanted = shell.run(recipe), PRINTS.get(first)
             is_right = ran.stdout == wanted if wanted is not None else bool(ran.stdout)
             # (`diff` ends with 1 where tables differ, as they do)
             ended = 1 if recipe.rstrip().split("\n")[-1].startswith("diff ") else 0
             count.check(f"{first}: status {ran.returncode}: {ran.stdout!r} {ran.stderr}", is_right and ran.returncode == ended)
+            if "tools/takeover" in recipe:
+                told = shell.lrcman("show stripes", shell.read("store.sequel")).stdout.decode()
+                count.check(f"{first}: the store begins with {told}", ",risk,2,0x1000,12," in told)
+    month(count, program)
+    capacity(count, program)
+    completion(count, program)
+    manual(count)
     return count.report()
 
 

@@ -3,9 +3,8 @@
 Usage: tests/program/show [--long | --quick] [PROGRAM] [SEED], by default the program that `rt ci` or `rt run` has built in crates/lrcman.
 The seed, by default that of the hour, is printed. It is that of some of the stores that returns come to.
 
-- Each bundle of `examples` and `examples/rules`, each sequel of `examples/sequels`, and 200 drawn bundles, or 3,000 with
-  --long: each of the five tables; of the drawn bundles two tables each, in turn. With --quick each fifth bundle, and 20
-  drawn ones.
+- Each bundle of `examples` and `examples/rules`, each sequel of `examples/sequels`, and 300 drawn bundles, or 3,000 with
+  --long: each table, and with `health` status 4 where a stripe is in danger. With --quick each fifth bundle, and 20 drawn ones.
 - The same input, and what would become of each stripe if drawn nodes, and nodes of drawn domains, were stopped, or lost: the
   table, and status 4 where a stripe is harmed. The model makes the reports and compares. Stripes that are harmed by no
   more than a home have to be among them.
@@ -28,10 +27,15 @@ from tests import harness
 from tests.harness import parts_of
 from tests.model import causes, draws, returns, rules
 from tests.model.draws import numbers
-from tests.model.shown import FORECAST, REPORTS, VIEWS, forecast, nodes_of, shown
+from tests.model.shown import FORECAST, LEVELS, REPORTS, VIEWS, after_reports, domains_of, domains_rows, forecast, health_rows
+from tests.model.shown import is_in_danger, level_counts, levels_of, nodes_of, shown
 
-DRAWN, LONG, QUICK, COMMANDS = 200, 3_000, 20, 60
+DRAWN, LONG, QUICK, COMMANDS = 300, 3_000, 20, 60
 EACH = 5  # with --quick, one of so many bundles is taken
+
+# What `show health` can say of a store.
+REASONS = ("ok", "lost", "unavailable", "margin_0", "margin_1", "margin_2", "no_node", "waiting", "ending", "upgrading",
+           "fault_domains", "slots")
 
 # What names no node of twenty, with the line that refuses it.
 UNKNOWN = [("20", "node 20"), ("3 99 98", "node 99"), ("65535", "node 65535"), ("fault 20", "fault 20"), ("upgrade 10", "upgrade 10"),
@@ -52,9 +56,10 @@ def expect(count, name, program, words, given, wanted, status=0):
     count.check(f"lrcman {' '.join(words)} of {name}: status {ran.returncode} {ran.stderr[:200]}", is_right)
 
 
-def expect_all(count, name, program, given, store, entries, views=VIEWS):
-    for view in views:
-        expect(count, name, program, ["show", view], given, shown(view, store, entries))
+def expect_all(count, name, program, given, store, entries):
+    for view in VIEWS:
+        status = 4 if view == "health" and is_in_danger(store) else 0
+        expect(count, name, program, ["show", *view.split(" ")], given, shown(view, store, entries), status)
 
 
 def expect_forecast(count, name, program, given, store, word, named):
@@ -101,16 +106,24 @@ def played(bundle):
 
 
 def drawn_bundle(seed):
-    """A topology of 16 to 40 nodes and a script of drawn commands, over few stripes: as text, with its store and entries."""
-    row = numbers(seed)
-    count, slots = 16 + next(row) % 25, 1 + next(row) % 8
+    """A topology of 16 to 40 nodes and a script of drawn commands, over few stripes: as text, with its store and entries. Of three
+    bundles one ends with nodes that fail or go down, and one has few slots, and stripes for all of them."""
+    row, kind = numbers(seed), seed % 3
+    count, slots = 16 + next(row) % 25, 1 + next(row) % (2 if kind == 2 else 8)
     nodes = {number: rules.Node(number % (16 + next(row) % 20), number % (7 + next(row) % 6), slots) for number in range(count)}
     store, script = rules.Store(nodes), []
     within = draws.Range(6, range(count + 1), range(13))
-    while len(script) < COMMANDS:
-        _, line = draws.drawn_call(store, row, within)  # (all calls of a script are session 1's)
+
+    def call(line):
         script.append(line)
         store.call(1, line)
+
+    for stripe in range(100, 110 if kind == 2 else 100):
+        call(f"{draws.one_of(row, rules.PLACES)} {stripe}")
+    while len(script) < COMMANDS:
+        call(draws.drawn_call(store, row, within)[1])  # (all calls of a script are session 1's)
+    for _ in range(next(row) % 10 if kind == 1 else 0):
+        call(draws.one_of(row, ("fail {0}", "fail {0}", "down {0}", "tick", "next")).format(draws.one_of(row, nodes)))
     return harness.bundle_of(nodes, [script]).encode(), store, len(script)
 
 
@@ -143,12 +156,22 @@ def expect_meaning(count, program, seed):
         count.check(f"what is harm in these states: {answered}", least > 0)
 
 
+def expect_same_levels(count, name, store):
+    """The levels that the model tells of each domain are those of the store after a report of each of its nodes."""
+    for kind, word in ("fault", "may-lose"), ("upgrade", "may-stop"):
+        for (_, nodes, _), row in zip(domains_of(store, kind), domains_rows(store, kind), strict=True):
+            told, wanted = row[-len(LEVELS):], level_counts(levels_of(after_reports(word, store, nodes)))
+            count.check(f"{name}: {kind} domain {row[0]} has {told} and not {wanted}", told == wanted)
+
+
 def expect_drawn(program, seed):
     count = harness.Count()
     bundle, store, entries = drawn_bundle(seed)
-    views = [VIEWS[seed % 5], VIEWS[(seed + 2) % 5]]
-    expect_all(count, f"drawn bundle {seed}", program, bundle, store, entries, views)
+    if seed % 10 == 0:
+        expect_same_levels(count, f"drawn bundle {seed}", store)
+    expect_all(count, f"drawn bundle {seed}", program, bundle, store, entries)
     answered = expect_forecasts(count, f"drawn bundle {seed}", program, bundle, store, seed, 1)
+    answered.update(row[0] for row in health_rows(store))
     return count.passed, count.failed, answered
 
 
@@ -243,7 +266,7 @@ def expect_refusals(count, program):
     for at, (name, given, status, line) in enumerate(refused_inputs()):
         met.add(words_for(line))
         refuse(count, program, name, ["image"], given, status, line)
-        asked = [*(["show", view] for view in VIEWS), *([word, "0"] for word in REPORTS)]
+        asked = [*(["show", *view.split(" ")] for view in VIEWS), *([word, "0"] for word in REPORTS)]
         for words in asked if "image" not in name else asked[at % len(asked):][:1]:
             refuse(count, program, name, words, given, status, line)
         if given.startswith(b"image "):
@@ -273,6 +296,7 @@ def main(words):
     count.check(f"answers of each kind to many questions: {answers}", min(answers["safe"], answers["not safe"]) > drawn // 10)
     if drawn > QUICK:
         count.check(f"stripes that are harmed in each way: {answers}", min(answers["recoverable home"], answers["home"]) > 0)
+        count.check(f"stores of each health: {answers}", min(answers[reason] for reason in REASONS) > 0)
     return count.report()
 
 

@@ -27,6 +27,7 @@ from concurrent.futures import ThreadPoolExecutor
 from tests import harness
 from tests.harness import example
 from tests.model.rules import MOST_BYTES
+from tests.model.shown import VIEWS
 
 STREAMS = ["INPUT", "OUTPUT", "ERRORS"]
 KINDS = ["MEMORY", *STREAMS]
@@ -77,7 +78,7 @@ def sweeps():
         yield word, sequel("goes_on") + b"place\n"
         yield word, example("several/two_idle_scripts")
         yield word, b"#" * (MOST_SEQUEL_BYTES + 1)
-    for view in ("status", "stripes", "nodes", "leases", "work"):
+    for view in VIEWS:
         yield f"show {view}", sequel("goes_on")
     yield "show work", example("every_reply")
     yield "show status", bad_line  # (its line goes to standard error, and so do those of the next)

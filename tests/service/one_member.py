@@ -29,7 +29,7 @@ def run_example(count, asker, member, name):
         right = store.call(1, command)
         is_right = (status, told.get("n"), told.get("reply")) == (200, number, right)
         count.check(f"{name} {number}: {told}, and not {right}", is_right)
-    for view in shown.VIEWS:
+    for view in shown.SERVED:
         text = asker.ask(member.client, "GET", f"/books/{book}/show/{view}?format=csv")[2].decode()
         count.check(f"{name}: show {view}: {text}", text == shown.shown(view, store, len(scripts[0])))
     text = asker.ask(member.client, "GET", f"/books/{book}/image")[2].decode()

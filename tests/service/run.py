@@ -111,7 +111,7 @@ def expect_quiet(count, name, ran):
 
 
 def test_go(count, library):
-    expect_quiet(count, "gofmt", go(library, "gofmt -l client cmd internal"))
+    expect_quiet(count, "gofmt", go(library, "gofmt -l book client cmd internal"))
     expect_quiet(count, "go vet", go(library, "go vet $(go_packages) && go vet -tags faulty $(go_packages)"))
     program = next((it for it in ("staticcheck", "go-staticcheck") if shutil.which(it)), None)
     if program:

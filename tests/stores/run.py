@@ -9,9 +9,11 @@ import sys
 import tempfile
 
 from tests import harness
-from tests.stores import store_books, store_durability, store_postgres, store_requests, store_sqlite, store_standby, store_threads
+from tests.stores import (store_books, store_durability, store_postgres, store_races, store_requests, store_sqlite, store_standby,
+                          store_threads)
 
-TESTS = {"sqlite": store_sqlite.test, "threads": store_threads.test, "durability": store_durability.test}
+TESTS = {"sqlite": store_sqlite.test, "threads": store_threads.test, "races": store_races.test,
+         "durability": store_durability.test}
 OVER_POSTGRES = {"standby": store_standby.test, "books": store_books.test}
 
 

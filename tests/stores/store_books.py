@@ -5,11 +5,13 @@ import os
 import select
 import signal
 import time
+import zlib
 from collections import Counter
 
 from tests import harness
 from tests.library.library import lrc_embed
-from tests.stores.store_requests import Running, check_other_version, compile_store, left_out, model_of, next_version
+from tests.stores.store_requests import (Running, check_other_version, check_readme, compile_store, left_out, model_of,
+                                         next_version)
 
 HEADERS = ("/usr/include/postgresql", "/usr/include")
 SLOTS = 10240  # of each node, shared out among the books
@@ -27,15 +29,30 @@ def compile_books(count, library, room, name="books", links=()):
 class Cluster:
     """The database of a cluster's books, and the program over it."""
 
-    def __init__(self, server, program, name, books, nodes, processes):
-        self.words = program, server.new_database(name), books, nodes, processes
+    def __init__(self, server, program, name, books, nodes, processes, entries=100_000):
+        self.words = program, server.new_database(name), books, nodes, processes, entries
         self.connection, self.books = server.connect(name), books
 
     def run(self, seconds=120):
         return Running(*self.words, seconds=seconds)
 
+    def keep_what_is_cut(self):
+        """Makes the tables, and others in which is kept from now on what is deleted of logs and images."""
+        running = self.run()
+        running.line()
+        running.end()
+        for table in ("log", "image"):
+            self.connection.rows(f"CREATE TABLE older_{table} (LIKE {table})")
+            self.connection.rows(f"CREATE FUNCTION keep_{table}() RETURNS trigger LANGUAGE plpgsql AS"
+                                 f" 'BEGIN INSERT INTO older_{table} VALUES (OLD.*); RETURN OLD; END'")
+            self.connection.rows(f"CREATE TRIGGER keep BEFORE DELETE ON {table} FOR EACH ROW EXECUTE FUNCTION keep_{table}()")
+
+    def images(self, book, table="image"):
+        return self.connection.rows(f"SELECT number, text, checksum FROM {table} WHERE book = $1 ORDER BY number", book)
+
     def entries(self, book):
-        rows = self.connection.rows("SELECT number, entry FROM log WHERE book = $1 ORDER BY number", book)
+        rows = self.connection.rows("SELECT number, entry FROM (SELECT * FROM log UNION ALL SELECT * FROM older_log) AS whole"
+                                    " WHERE book = $1 ORDER BY number", book)
         numbers, entries = zip(*rows) if rows else ((), ())
         return list(numbers) == list(range(1, len(rows) + 1)), list(entries)
 
@@ -56,8 +73,9 @@ def expect(count, running, line, *right):
 
 
 def test_log(count, cluster, library):
-    """Each book has its entries in order, and they are those of the model. The slots of no node are in use twice."""
-    shares = Counter()
+    """Each book has its entries in order, and they are those of the model. Its images are those of the entries before them, and
+    it keeps two, and the log from the older one on. The slots of no node are in use twice."""
+    shares, library = Counter(), ctypes.CDLL(library)
     for book in range(cluster.books):
         is_whole, entries = cluster.entries(book)
         text = cluster.nodes(book)
@@ -66,12 +84,53 @@ def test_log(count, cluster, library):
         count.check(f"books: the numbers of book {book}", is_whole)
         _, wrong = model_of(nodes, entries[:MODELLED])
         count.add(min(len(entries), MODELLED) - len(wrong), [f"books: book {book}: {line}" for line in wrong])
+        kept = cluster.images(book)
+        (first,), = cluster.connection.rows("SELECT min(number) FROM log WHERE book = $1", book)
+        count.check(f"books: book {book} keeps {len(kept)} images", len(kept) == 2 and first == kept[0][0] + 1)
+        images = {number: image for number, *image in kept + cluster.images(book, "older_image")}
         try:
-            with lrc_embed.Book(ctypes.CDLL(library), text, entries) as replayed:
+            with lrc_embed.Book(library, text) as replayed:
+                for number, (image, checksum) in sorted(images.items()):
+                    replayed.replay(entries[replayed.count():number])
+                    is_right = replayed.image() == image and checksum == zlib.crc32(image.encode())
+                    count.check(f"books: image {number} of book {book}", is_right)
+                replayed.replay(entries[replayed.count():])
                 count.check(f"books: the replay of book {book}", replayed.count() == len(entries))
+                before = max(images)
+                with lrc_embed.Book(library, text, entries[before:], images[before][0]) as begun:
+                    count.check(f"books: book {book} from its image", begun.image() == replayed.image())
         except lrc_embed.Fault as fault:
             count.check(f"books: the replay of book {book}: {fault} at {fault.position}", False)
     count.check("books: the slots are shared out", max(shares.values()) <= SLOTS)
+
+
+def end_at(count, cluster, why):
+    """A process of the cluster ends at its start, with this reason."""
+    _, status, errors = cluster.run().end()
+    count.check(f"books: {why}: status {status}: {errors}", status == 1 and why in errors)
+
+
+def test_images(count, cluster):
+    """A book begins in the image before where its newest is damaged. Where both are, or a record behind is missing, its process
+    ends."""
+    whole = [cluster.images(book) for book in range(cluster.books)]
+    cluster.connection.rows("UPDATE image SET text = text || ' ' WHERE book = 1 AND number = $1", whole[1][1][0])
+    running = cluster.run()
+    expect(count, running, None, "ready")
+    expect(count, running, "book 1 down 20", "1 changed")
+    expect(count, running, "book 1 up 20", "1 changed")
+    running.end()
+    cluster.connection.rows("UPDATE image SET text = text || ' ' WHERE book = 1")
+    next_record = cluster.images(1)[-1][0] + 1
+    end_at(count, cluster, "book 1: record 1 is missing or damaged")
+    cluster.connection.rows("UPDATE image SET text = rtrim(text, ' ')")
+    cluster.connection.rows("DELETE FROM log WHERE book = 1 AND number = $1", next_record)
+    end_at(count, cluster, f"book 1: record {next_record} is missing or damaged")
+    cluster.connection.rows("INSERT INTO log SELECT * FROM older_log WHERE book = 1 AND number = $1", next_record)
+    cluster.connection.rows("DELETE FROM older_log WHERE book = 1 AND number = $1", next_record)
+    running = cluster.run()
+    expect(count, running, None, "ready")
+    running.end()
 
 
 def urgent(cluster):
@@ -86,6 +145,13 @@ def urgent(cluster):
     return f"urgent {book} {stripe} 2 {rank}"
 
 
+def expect_refused(count, running):
+    expect(count, running, "jump 9", "the first word is not a command")
+    expect(count, running, "down 9 9", "the command takes another number of words")
+    expect(count, running, "book 1 upgrade 256", "a number is out of its range")
+    expect(count, running, "place 9", "this is not of all books: place 9")
+
+
 def test_orders(count, cluster):
     """Node events, the most urgent stripe, and upgrades."""
     books = cluster.books
@@ -98,7 +164,7 @@ def test_orders(count, cluster):
     expect(count, running, "book 2 down 20", "1 changed")
     expect(count, running, "urgent", urgent(cluster))
     expect(count, running, "book 2 up 20", "1 changed")
-    expect(count, running, "jump 9", "there is no command jump")
+    expect_refused(count, running)
     expect(count, running, "ask 200", "yes")  # no book has a node in this domain: nothing is in the way
     expect(count, running, "begin 3", "ask first")
     expect(count, running, "ask 3", "yes")
@@ -212,13 +278,16 @@ def test(count, folder, room, is_long, server):
     if program is None:
         return
     library, cores = f"{folder}/liblrc_embed.so", os.cpu_count()
-    orders = Cluster(server, program, "orders", 4, 64, 3)
+    orders = Cluster(server, program, "orders", 4, 64, 3, 150)
+    orders.keep_what_is_cut()
     test_orders(count, orders)
     test_kills(count, orders, 20 if is_long else 4)
     test_one_process(count, orders)
     other = compile_books(count, folder, room, "books-other", next_version(count, room).links)
     test_versions(count, orders, other)
     test_log(count, orders, library)
+    test_images(count, orders)
+    check_readme(count, "books", Cluster(server, program, "readme_of_books", 4, 64, 2).run())
     books, nodes, stripes, seconds = (64, 512, 4096, 20) if is_long else (8, 64, 64, 1)
     one = speed(count, Cluster(server, program, "one", 1, nodes, 1), stripes, seconds)
     all_books = speed(count, Cluster(server, program, "books", books, nodes, cores), stripes, seconds)

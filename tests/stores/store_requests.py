@@ -1,5 +1,6 @@
 """What the tests of the stores share: requests with the replies of the model in tests/model/rules.py, and stores that run."""
 import os
+import re
 import shutil
 import signal
 import subprocess
@@ -58,14 +59,19 @@ def line_of(command):
     return " ".join([word, *(str(getattr(command, name)) for name in FIELDS.get(word, ["node"]))])
 
 
+def wrong_reply(model, number, data):
+    """Makes the call of an entry, of which these are the bytes, in the model. A line if its reply is not the model's."""
+    entry = lrc_embed.Entry.from_buffer_copy(data)
+    line = line_of(entry.command)
+    right = model.call(entry.session, line)
+    return [] if str(entry.reply) == right else [f"entry {number}, `{line}` by {entry.session}: {entry.reply}, and not {right}"]
+
+
 def model_of(nodes, entries):
     """The model after the calls of entries, which are bytes, and a line for each reply that is not the model's."""
     model, wrong = store.Store(nodes), []
-    for number, entry in enumerate(map(lrc_embed.Entry.from_buffer_copy, entries), 1):
-        line = line_of(entry.command)
-        right = model.call(entry.session, line)
-        if str(entry.reply) != right:
-            wrong.append(f"entry {number}, `{line}` by {entry.session}: {entry.reply}, and not {right}")
+    for number, data in enumerate(entries, 1):
+        wrong += wrong_reply(model, number, data)
     return model, wrong
 
 
@@ -89,23 +95,46 @@ class Requests:
         """The lines that answer them."""
         return [f"r{at} {at + 1} {reply}" for at, (_, _, reply) in enumerate(self.calls[begin:end], begin)]
 
-    def check_log(self, count, name, library, rows):
-        """A log has each call once, in order: rows of number, token, bytes of the entry, checksum. Its replay gives the state
-        of the model, in all that a book reports."""
-        wrong = []
-        for at, ((number, token, data, checksum), (session, line, reply)) in enumerate(zip(rows, self.calls)):
+    def generations(self):
+        """The numbers of the entries that placed the stripes which are there in the end."""
+        found = {}
+        for number, (_, line, reply) in enumerate(self.calls, 1):
+            word, *numbers = line.split()
+            if word.startswith("place") and reply.startswith("placed"):
+                found[int(numbers[0])] = number
+            elif word == "drop" and reply == "dropped":
+                del found[int(numbers[0])]
+        return found
+
+    def check_log(self, count, name, library, rows, images):
+        """A log has each call once, in order, from the older of its two images on: rows of number, token, bytes of the entry and
+        checksum, and images as number, text and checksum. The images are those of the model, and the replay from each of them
+        gives the model's state, in all that a book reports."""
+        begin, wrong = rows[0][0] - 1 if rows else 0, []
+        numbers = [number for number, _, _ in images]
+        is_cut = begin == numbers[0] and len(images) == 2 if begin else len(images) < 2
+        count.check(f"{name}: a log from {begin} on, of which there are images {numbers}", is_cut)
+        for at, (number, token, data, checksum) in enumerate(rows, begin):
+            session, line, reply = self.calls[at] if at < len(self.calls) else (None, "tick", None)
             entry = lrc_embed.Entry.from_buffer_copy(data)
             found = number, token, entry.session, bytes(entry.command), str(entry.reply), checksum
             if found != (at + 1, f"r{at}", session, bytes(command_of(line)), reply, zlib.crc32(data)):
                 wrong.append(f"{name}: record {at + 1}: {found}")
-        count.check(f"{name}: {len(rows)} records of {len(self.calls)} calls", len(rows) == len(self.calls))
+        count.check(f"{name}: {begin + len(rows)} records of {len(self.calls)} calls", begin + len(rows) == len(self.calls))
         count.add(len(rows) - len(wrong), wrong)
-        try:
-            with lrc_embed.Book(library, TOPOLOGY, b"".join(row[2] for row in rows)) as book:
-                compare(book, self.model, len(self.calls))
-            count.passed += 1
-        except (Differs, lrc_embed.Fault) as differs:
-            count.check(f"{name}: the replay: {differs}", False)
+        model = store.Store(NODES)
+        for at, (session, line, _) in enumerate(self.calls, 1):
+            model.call(session, line)
+            for number, text, checksum in images:
+                if at == number:
+                    count.check(f"{name}: image {number}", (text, checksum) == (model.image(number), zlib.crc32(text.encode())))
+        for number, text, _ in images if begin else [(0, None, None), *images]:
+            try:
+                with lrc_embed.Book(library, TOPOLOGY, b"".join(row[2] for row in rows[number - begin:]), text) as book:
+                    compare(book, self.model, len(self.calls))
+                count.passed += 1
+            except (Differs, lrc_embed.Fault) as differs:
+                count.check(f"{name}: the replay from {number}: {differs}", False)
 
 
 class Running:
@@ -164,6 +193,25 @@ class Running:
         status = self.process.wait()
         self.guard.cancel()
         return lines, status, errors
+
+
+def check_readme(count, name, running):
+    """A store, which has just begun, prints what its README says: after the command that runs it, first what it prints by itself,
+    then requests and their answers in turn. Replies to requests are those of the model."""
+    text = harness.read(f"{STORES}/{name}/README.md").decode()
+    block = re.search(r"^    \$ (?:.*\n)(?:    .*\n)+", text, re.M)[0]
+    first, *lines = [line[4:] for line in block.splitlines() if not re.match(r"    (?:\$|    )", line)]
+    count.check(f"{name}: README: {first}", running.line() == first and len(lines) > 5)
+    model, known = rules.Store(NODES), {}
+    for asked, told in zip(lines[::2], lines[1::2]):
+        found = running.ask(asked)
+        count.check(f"{name}: README: `{asked}`: {found}, and not {told}", found == told)
+        if request := re.fullmatch(r"(a\d+) (\d) (.*)", asked):
+            token, session, line = request.groups()
+            if token not in known:
+                known[token] = f"{token} {len(known) + 1} {model.call(int(session), line)}"
+            count.check(f"{name}: README: {told}, and not {known[token]}", told == known[token])
+    count.check(f"{name}: README: it ends well", running.end()[1] == 0)
 
 
 def pause(row, most):

@@ -8,9 +8,11 @@ import sys
 from contextlib import closing
 from itertools import count as numbers_from
 
+from tests.harness import nodes_of, read
 from tests.library.library import lrc_embed
 from tests.model import draws
-from tests.stores.store_requests import STORES, TOPOLOGY, Requests, Running, check_other_version, next_version, pause
+from tests.stores.store_requests import (NODES, STORES, TOPOLOGY, Requests, Running, check_other_version, check_readme,
+                                         next_version, pause)
 
 STORE = os.path.join(STORES, "sqlite", "store.py")
 
@@ -18,19 +20,22 @@ STORE = os.path.join(STORES, "sqlite", "store.py")
 class Place:
     """A folder with the database of a store, and the words that run it."""
 
-    def __init__(self, library, room, name):
+    def __init__(self, library, room, name, entries=100_000):
         self.folder = os.path.join(room, name)
         os.mkdir(self.folder)
         self.database, nodes = f"{self.folder}/store.sqlite", f"{self.folder}/nodes.toml"
         with open(nodes, "w", encoding="utf-8") as file:
             file.write(TOPOLOGY)
-        self.words = [sys.executable, STORE, self.database, library, nodes]
+        self.words = [sys.executable, STORE, self.database, library, nodes, str(entries)]
 
     def run(self, **how):
         return Running(*self.words, **how)
 
     def log(self):
         return self.execute("SELECT number, token, entry, checksum FROM log ORDER BY number")
+
+    def images(self):
+        return self.execute("SELECT number, text, checksum FROM image ORDER BY number")
 
     def copy(self, name):
         """The same with a copy of its folder."""
@@ -74,7 +79,10 @@ def test_kills(count, library, place, requests, kills):
     check_told(count, requests, told, store.answers(requests, told, len(requests.calls)))
     _, status, errors = store.end()
     count.check(f"sqlite: status {status}: {errors}", status == 0)
-    requests.check_log(count, "sqlite", ctypes.CDLL(library), place.log())
+    requests.check_log(count, "sqlite", ctypes.CDLL(library), place.log(), place.images())
+    kept = dict(place.execute("SELECT stripe, generation FROM stripe"))
+    count.check("sqlite: the entries that placed the stripes", kept and kept == requests.generations())
+    count.check("sqlite: the log is cut", place.images() and len(place.log()) < len(requests.calls) / 4)
     print(f"sqlite: {killed} kills, {len(requests.calls)} calls")
 
 
@@ -104,9 +112,12 @@ def test_disk_full(count, library, place, requests):
             check_told(count, requests, told, [line])
             told += 1
     _, status, errors = store.end()
-    count.check(f"sqlite: {refused} requests were refused, status {status}: {errors}", refused >= 6 and status == 0)
-    requests.check_log(count, "sqlite with a full disk", ctypes.CDLL(library), place.log())
-    print(f"sqlite: {refused} requests were refused while the disk was full")
+    count.check(f"sqlite: {refused} requests were refused, status {status}: {errors[-200:]}", refused >= 6 and status == 0)
+    kept = dict(place.execute("SELECT stripe, generation FROM stripe"))
+    count.check("sqlite: the entries that placed the stripes, with a full disk", kept == requests.generations())
+    requests.check_log(count, "sqlite with a full disk", ctypes.CDLL(library), place.log(), place.images())
+    count.check("sqlite: images were refused while the disk was full", "no image: " in errors and place.images())
+    print(f"sqlite: {refused} requests were refused while the disk was full, and {errors.count('no image')} images")
 
 
 def test_others(count, place):
@@ -118,15 +129,40 @@ def test_others(count, place):
     second = place.run().end()
     count.check(f"sqlite: a second process: {second}", second[1] == 1 and "locked" in second[2])
     count.check("sqlite: the first process goes on", store.end()[1] == 0)
+    (older, _, _), (newest, _, _) = place.images()
+    bad, at = "UPDATE image SET text = text || ' '", newest + 5
     for name, command, why in [
-            ("changed", "UPDATE log SET entry = CAST(x'03' || substr(entry, 2) AS BLOB) WHERE number = 100", "record 100"),
-            ("missing", "DELETE FROM log WHERE number = 100", "record 100"),
-            ("renumbered", "UPDATE log SET number = 0 WHERE number = 1", "record 1"),
+            ("changed", f"UPDATE log SET entry = CAST(x'03' || substr(entry, 2) AS BLOB) WHERE number = {at}", f"record {at}"),
+            ("missing", f"DELETE FROM log WHERE number = {at}", f"record {at}"),
+            ("renumbered", f"UPDATE log SET number = 0 WHERE number = {newest + 1}", f"record {newest + 1}"),
+            ("no image", bad, "record 1"),
             ("other nodes", "UPDATE store SET nodes = nodes || ' '", "other nodes")]:
         other = place.copy(name.replace(" ", "-"))
         other.execute(command)
         _, status, errors = other.run().end()
         count.check(f"sqlite: {name}: status {status}: {errors}", status == 1 and why in errors)
+
+
+def test_images(count, place):
+    """The store begins in the image before where the newest is damaged, and cuts its log from there on."""
+    entries = place.log()[-1][0]
+    (older, _, _), (newest, _, _) = place.images()
+    damaged = place.copy("damaged")
+    damaged.execute(f"UPDATE image SET text = text || ' ' WHERE number = {newest}")
+    store = damaged.run()
+    count.check("sqlite: it begins in the image before", store.line() == f"ready {entries}")
+    count.check("sqlite: and goes on", (store.ask("more 1 tick") or "").startswith(f"more {entries + 1} ticked "))
+    count.check("sqlite: after the image before", store.end()[1] == 0)
+    # It is made anew at once, since it is long ago, and the damaged one goes with the next.
+    numbers = [number for number, _, _ in damaged.images()]
+    count.check(f"sqlite: images after a damaged one: {numbers}", numbers == [older, newest, entries + 1])
+    damaged.words[-1] = "2"
+    store = damaged.run()
+    count.check("sqlite: it begins in the new image", store.line() == f"ready {entries + 1}")
+    told = [store.ask(f"more{at} 1 tick") for at in range(2)]
+    count.check(f"sqlite: {told}", store.end()[1] == 0)
+    numbers = [number for number, _, _ in damaged.images()]
+    count.check(f"sqlite: the damaged image is gone: {numbers}", numbers == [entries + 1, entries + 3])
 
 
 def test_versions(count, room, place):
@@ -143,13 +179,22 @@ def test_versions(count, room, place):
     count.check("sqlite: a log of other rules stays as it is", place.log() == log)
     place.execute(f"UPDATE store SET rules = {own}")
     store = place.run()
-    count.check("sqlite: the log is taken again", store.line() == f"ready {len(log)}" and store.end()[1] == 0)
+    count.check("sqlite: the log is taken again", store.line() == f"ready {log[-1][0]}" and store.end()[1] == 0)
+
+
+def test_readme(count, place):
+    """The lines of its README, over the nodes of examples/stores."""
+    place.words[4] = f"{STORES}/nodes.toml"
+    check_readme(count, "sqlite", place.run())
+    count.check("stores: nodes.toml has the nodes of the tests", nodes_of(read(place.words[4])) == NODES)
 
 
 def test(count, folder, room, is_long):
     library = f"{folder}/liblrc_embed.so"
-    place = Place(library, room, "killed")
+    place = Place(library, room, "killed", 280)
     test_kills(count, library, place, Requests(5, 20_000 if is_long else 3_000), 400 if is_long else 30)
-    test_disk_full(count, library, Place(library, room, "full"), Requests(6, 1_000))
+    test_disk_full(count, library, Place(library, room, "full", 15), Requests(6, 1_000))
     test_others(count, place)
+    test_images(count, place)
+    test_readme(count, Place(library, room, "readme"))
     test_versions(count, room, place)

@@ -1,0 +1,135 @@
+"""The texts of the library: lines of commands, read and written, words for numbers, and tables of a book beside the model.
+
+What a line has to be is written here once more, after docs/RULES.md and docs/FORMATS.md. Tables are those of
+tests/model/shown.py."""
+import random
+import re
+
+from tests import harness
+from tests.library import library, walked
+from tests.library.library import lrc_embed
+from tests.model import shown
+
+Cause, Kind = lrc_embed.LineCause, lrc_embed.CommandKind
+BOUNDS = {"stripe": 4096, "fragment": 16, "epoch": 2**32, "node": 65536, "domain": 256}
+WORDS = [*library.FIELDS, "fail", "down", "up", "drain", "undrain", "retire", "join"]
+# What a drawn line is changed by.
+PIECES = [b" ", b"  ", b"\n", b"\r", b"\t", b"#", b"0", b"00", b"-1", b"+1", b"9", b"16", b"256", b"4096", b"65536", b"4294967296",
+          b"x", b"\x00", b"place", b"place6", b"next", b"tick", b"99999999999999999999999", b"#" * 1100]
+
+
+def fields_of(word):
+    return library.FIELDS.get(word, ["node"])
+
+
+def cause_of(line):
+    """Why a line is bad: the first cause; None where it is not."""
+    if len(line) > 1024:
+        return Cause.TOO_LONG
+    if not line or line.startswith(b"#"):
+        return None
+    word, *numbers = line.split(b" ")
+    if word not in [it.encode() for it in WORDS]:
+        return Cause.UNKNOWN_WORD
+    fields = fields_of(word.decode())
+    if len(numbers) != len(fields):
+        return Cause.WORD_COUNT
+    for number, field in zip(numbers, fields):
+        if not re.fullmatch(rb"0|[1-9][0-9]*", number):
+            return Cause.NOT_A_NUMBER
+        if int(number) >= BOUNDS[field]:
+            return Cause.OUT_OF_RANGE
+    return None
+
+
+def drawn_line(row):
+    """The line of a command, with numbers at their bounds or below."""
+    word = row.choice(WORDS)
+    numbers = [row.choice([0, 1, 9, 10, BOUNDS[it] - 1, row.randrange(BOUNDS[it])]) for it in fields_of(word)]
+    return " ".join([word, *map(str, numbers)]).encode()
+
+
+def changed(row, line):
+    """A line with a piece put in, or for a byte of it, or without one."""
+    at, piece = row.randrange(len(line) + 1), row.choice(PIECES)
+    return row.choice([line[:at] + piece + line[at:], line[:at] + piece + line[at + 1:], line[:at] + line[at + 1:]])
+
+
+def read(shared, line):
+    """What the library reads a line as: the bytes of a command, None or a cause."""
+    try:
+        command = lrc_embed.read_command(shared, line.decode())
+    except lrc_embed.BadLine as bad:
+        return bad.cause
+    return command and bytes(command)
+
+
+def test_lines(count, shared, lines=20_000):
+    """Lines are read as the commands that they are, and written so; bad ones have their first cause, and each cause comes."""
+    row, wrong, met = random.Random(5), [], set()
+    for _ in range(lines):
+        line = drawn_line(row)
+        command = library.command_of(line.decode())
+        if read(shared, line) != bytes(command) or lrc_embed.command_line(shared, command).encode() != line:
+            wrong.append(f"{line}: {read(shared, line)}")
+        for _ in range(row.randrange(3)):
+            line = changed(row, line)
+        cause = cause_of(line)
+        is_none = cause is None and (not line or line.startswith(b"#"))
+        right = cause or (None if is_none else bytes(library.command_of(line.decode())))
+        if not line.endswith(b"\n") and read(shared, line) != right:
+            wrong.append(f"{line}: {read(shared, line)}, and not {right}")
+        met.add(cause)
+    count.add(2 * lines - len(wrong), wrong)
+    count.check(f"texts: causes of drawn lines: {met}", met == {None, *Cause})
+    for kind in range(1, 19):
+        line = lrc_embed.command_line(shared, lrc_embed.Command(kind))
+        word = line.split(" ")[0]
+        count.check(f"texts: the word of kind {kind}: {line}", ("REPORT" if word == "done" else word.upper()) == Kind(kind).name)
+
+
+def words_by_cause():
+    """The words of docs/FORMATS.md for each line of a refusal."""
+    text = harness.read(f"{harness.TOP}/docs/FORMATS.md").decode()
+    table = text[text.index("## Refusals in words"):].split("\n## ")[0]
+    return dict(re.findall(r"^\| `(.+)` \| (.+) \|$", table, re.MULTILINE))
+
+
+def test_words(count, shared):
+    """The words for causes and statuses are those of lrcman, and no other number has any."""
+    words = words_by_cause()
+    tables = {"line_words": (r"line N cause (\d+)", 0), "cause_words": (r"image N cause (\d+)", 0),
+              "nodes_words": (r"topology (\d+)(?: [A-Z])?", 15)}
+    for table, (pattern, above) in tables.items():
+        right = {int(found[1]) + above: it for line, it in words.items() if (found := re.fullmatch(pattern, line))}
+        found = {number: lrc_embed.words_of(shared, table, number) for number in range(256)}
+        count.check(f"texts: {table}: {len(right)}", {number: it for number, it in found.items() if it} == right and len(right) > 4)
+    for table, enum in (("level_name", lrc_embed.LevelKind), ("mode_name", lrc_embed.ModeKind), ("code_name", lrc_embed.Code),
+                        ("repair_name", lrc_embed.Repair)):
+        found = {number: lrc_embed.words_of(shared, table, number) for number in range(256)}
+        right = {it.value: it.name.lower().removeprefix("at_").rstrip("3") for it in enum}
+        count.check(f"texts: {table}: {found}", {number: it for number, it in found.items() if it} == right)
+
+
+def test(count, shared):
+    test_lines(count, shared)
+    test_words(count, shared)
+
+
+# A book beside the model.
+
+
+def forecast_in_model(store, outage, nodes):
+    """The table of a forecast, and whether no stripe is harmed."""
+    word = "may-stop" if outage == lrc_embed.Outage.STOP else "may-lose"
+    table, harms = shown.outlook(store, walked.after_outage(store, outage, nodes), shown.newly_away(word, store, nodes))
+    return table, not harms
+
+
+def texts_of(book, store, count, turn):
+    """One table of a book and one of a forecast, by turns: as the book writes them, and as the model does."""
+    view = lrc_embed.View(1 + turn % len(lrc_embed.View))
+    words = view.name.lower().replace("_", " ")
+    yield f"the table of {words}", book.show(view), shown.shown(words, store, count)
+    outage = walked.drawn_outage(store, turn)
+    yield f"the table of {outage}", book.forecast_table(*outage), forecast_in_model(store, *outage)
