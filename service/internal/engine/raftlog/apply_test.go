@@ -21,12 +21,12 @@ import (
 func hold(machine *list, payload string) (begun chan struct{}, goOn func()) {
 	begun, released := make(chan struct{}), make(chan struct{})
 	var first, last sync.Once
-	machine.beforeApply = func(text string) {
+	machine.waitBefore(func(text string) {
 		if text == payload {
 			first.Do(func() { close(begun) })
 			<-released
 		}
-	}
+	})
 	return begun, func() { last.Do(func() { close(released) }) }
 }
 

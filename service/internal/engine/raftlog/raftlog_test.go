@@ -47,9 +47,22 @@ type list struct {
 	again         int  // how often it began again
 }
 
+// waitBefore makes Apply wait for a function from now on: the machine may be applying entries by now.
+func (l *list) waitBefore(wait func(payload string)) {
+	l.mu.Lock()
+	defer l.mu.Unlock()
+	l.beforeApply = wait
+}
+
+func (l *list) waits() func(payload string) {
+	l.mu.Lock()
+	defer l.mu.Unlock()
+	return l.beforeApply
+}
+
 func (l *list) Apply(index uint64, payload []byte) (interface{}, error) {
-	if l.beforeApply != nil {
-		l.beforeApply(string(payload))
+	if wait := l.waits(); wait != nil {
+		wait(string(payload))
 	}
 	l.mu.Lock()
 	defer l.mu.Unlock()
