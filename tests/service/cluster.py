@@ -10,6 +10,9 @@ import subprocess
 import time
 
 
+# Members take changes however full the machine's disk is, unless a test gives them a reserve of its own.
+NO_RESERVE = ["--disk-reserve", "0"]
+
 # The system gives clients ports from 32768 on, so none of them takes the port of a member that is away.
 PORTS = iter(random.sample(range(10000, 20000), 10000))
 
@@ -84,7 +87,7 @@ class Member:
     def start(self, *more):
         with open(self.log, "ab") as said:
             address = f"127.0.0.1:{self.client}"
-            words = ["--data", self.folder, "--id", str(self.number), "--listen", address, *self.words, *more]
+            words = [*NO_RESERVE, *self.words, "--data", self.folder, "--id", str(self.number), "--listen", address, *more]
             env = {**os.environ, **self.group.env}
             self.process = subprocess.Popen([self.group.program, *words], stdout=said, stderr=said, env=env)
         self.is_stopped = False

@@ -324,7 +324,7 @@ class Recipe:
         text = re.sub(r"\bh(\d):7421", lambda it: f"127.0.0.1:{self.host(int(it.group(1))).client}", text)
         text = re.sub(r"\bh(\d):7422", lambda it: f"127.0.0.1:{self.host(int(it.group(1))).peer}", text)
         text = text.replace("/var/lib/lrcmand", self.room).replace("--data DIR", f"--data {self.room}/4")
-        return re.sub(r"^lrcmand", self.program, text.replace(" ...", " --election 400ms --tick 0"))
+        return re.sub(r"^lrcmand", self.program, text.replace(" ...", " --election 400ms --tick 0 --disk-reserve 0"))
 
     def run(self, count, text):
         if text.startswith("systemctl stop"):

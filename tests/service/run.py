@@ -90,6 +90,11 @@ SECONDS, LONG, MOST_RUNS = 10, 120, 10
 NODES = {number: Node(number % 12, number % 10, 6) for number in range(24)}
 
 
+def place(room):
+    """A folder for one test, which goes when the test ends: so the part holds the files of one test at a time."""
+    return tempfile.TemporaryDirectory(dir=room)
+
+
 def left_out(what, why):
     print(f"left out: {what}: {why}", flush=True)
 
@@ -131,16 +136,16 @@ def build(count, library, file, tags=""):
     return count.run("service/build", os.path.join(SERVICE, "build"), "--library", library, file, **how)
 
 
-def test_cuts(count, library, room, is_long):
+def test_cuts(count, library, room, program, faulty, is_long):
     if not go(library, "go_fuse_packages").stdout:
         left_out("power cuts", "there is no package go-fuse: Debian's golang-github-hanwen-go-fuse-dev has it")
         return
     expect_quiet(count, "go vet powercut", go(library, "go vet $(go_fuse_packages)"))
     ran = go(library, f"go test -count=1 $(go_fuse_packages) && go build -o {room}/powercut $(go_fuse_packages)")
     if count.check(f"powercut: {ran.stdout[-2000:]} {ran.stderr[-2000:]}", ran.returncode == 0):
-        programs = [f"{room}/{name}" for name in ("lrcmand", "faulty", "powercut")]
-        test_power_cuts(count, *programs, room, NODES, 25 if is_long else 4, is_long)
-        test_crash_points(count, *programs[1:], room, NODES, is_long)
+        powercut = f"{room}/powercut"
+        test_power_cuts(count, program, faulty, powercut, room, NODES, 25 if is_long else 4, is_long)
+        test_crash_points(count, faulty, powercut, room, NODES, is_long)
 
 
 def test_chaos(count, program, room, is_long):
@@ -152,14 +157,14 @@ def test_chaos(count, program, room, is_long):
     count.check(f"something happened: {run}", all(happened))
 
 
-def expect_jumps(count, room):
+def expect_jumps(count, room, program):
     """The time of day of the one program jumps, and that of the other does not."""
-    jumping, still = (hours_away(f"{room}/{name}", f"{room}/hours-{name}") for name in ("jumping", "lrcmand"))
+    jumping, still = hours_away(f"{room}/jumping", f"{room}/hours-jumping"), hours_away(program, f"{room}/hours-still")
     count.check(f"a time of day that jumps is hours away: {jumping}", len(set(jumping)) > 3)
     count.check(f"a time of day that does not: {still}", set(still) == {0})
 
 
-def test_clocks(count, library, room):
+def test_clocks(count, library, room, program):
     """Members whose time of day jumps do as the others."""
     try:
         is_built = build_jumping(count, os.path.join(SERVICE, "build"), library, room, f"{room}/jumping")
@@ -167,7 +172,7 @@ def test_clocks(count, library, room):
         left_out("a time of day that jumps", why)
         return
     if is_built:
-        expect_jumps(count, room)
+        expect_jumps(count, room, program)
         seed = int(time.time())
         run = chaos(f"{room}/jumping", f"{room}/clocks", NODES, harness.topology_of(NODES), 30, seed)
         print(f"members whose time of day jumps, seed {seed}: {run}", flush=True)
@@ -177,7 +182,8 @@ def test_clocks(count, library, room):
 
 def run_faulty(faulty, room, fault, seed):
     how = {"env": {"LRCMAND_FAULT": fault}, "is_quiet": True, "lookers": 4}
-    return chaos(faulty, f"{room}/{fault}{seed}", NODES, harness.topology_of(NODES), 3, seed, **how)
+    with place(room) as folder:
+        return chaos(faulty, f"{folder}/{fault}{seed}", NODES, harness.topology_of(NODES), 3, seed, **how)
 
 
 def test_faulty(count, faulty, room):
@@ -198,8 +204,8 @@ ROWS = ["1 ", "8 ", "64 ", "256 ", "lrcmand ", "no book ", "64 books without", "
         "2,560 calls in", "a snapshot in", "1 of", "2 of", "4 of"]
 
 
-def test_measure(count, library):
-    told = count.run("service/measure", os.path.join(SERVICE, "measure"), "--quick", "--library", library)
+def test_measure(count, library, room):
+    told = count.run("service/measure", os.path.join(SERVICE, "measure"), "--quick", "--library", library, "--folder", room)
     lines = (told or "").splitlines()
     for row in ROWS:
         count.check(f"service/measure has no row {row!r}: {told}", any(line.startswith(row) for line in lines))
@@ -217,13 +223,30 @@ def test_both_clients(count, program, library, room):
     test_clients(count, program, f"{room}/caller", room, NODES)
 
 
-def test_disks_and_links(count, program, faulty, room, is_long):
-    test_damage(count, program, room, NODES, 30 if is_long else 3)
-    test_other_folders(count, program, room, NODES)
-    test_lost_folders(count, program, room, NODES)
-    test_strangers(count, program, room, NODES)
-    test_full_disk(count, faulty, room, NODES)
-    test_network(count, program, faulty, room, NODES, 60 if is_long else 6)
+def tests_of(count, library, program, faulty, is_long):
+    """The tests of members, in their order. Each takes the folder that it has to itself."""
+    yield lambda room: test_one_member(count, program, room)
+    yield lambda room: test_move(count, program, room)
+    yield lambda room: test_members(count, program, room, NODES)
+    yield lambda room: test_once_only(count, program, faulty, room, NODES)
+    yield lambda room: test_operators(count, program, faulty, room, NODES)
+    yield lambda room: test_bytes(count, program, room, NODES, 400 if is_long else 130)
+    yield lambda room: test_calls_beside_looks(count, program, room, NODES)
+    yield lambda room: test_limits(count, program, room, NODES)
+    yield lambda room: test_chaos(count, program, room, is_long)
+    yield lambda room: test_faulty(count, faulty, room)
+    yield lambda room: test_versions(count, faulty, room, NODES)
+    yield lambda room: test_both_clients(count, program, library, room)
+    yield lambda room: test_measure(count, library, room)
+    yield lambda room: test_damage(count, program, room, NODES, 30 if is_long else 3)
+    yield lambda room: test_other_folders(count, program, room, NODES)
+    yield lambda room: test_lost_folders(count, program, room, NODES)
+    yield lambda room: test_strangers(count, program, room, NODES)
+    yield lambda room: test_full_disk(count, faulty, room, NODES)
+    yield lambda room: test_network(count, program, faulty, room, NODES, 60 if is_long else 6)
+    yield lambda room: test_cuts(count, library, room, program, faulty, is_long)
+    if is_long:
+        yield lambda room: test_clocks(count, library, room, program)
 
 
 def main(words):
@@ -244,23 +267,9 @@ def main(words):
         test_go(count, library)
         program, faulty = f"{room}/lrcmand", f"{room}/faulty"
         if build(count, library, program) and build(count, library, faulty, "faulty"):
-            test_one_member(count, program, room)
-            test_move(count, program, room)
-            test_members(count, program, room, NODES)
-            test_once_only(count, program, faulty, room, NODES)
-            test_operators(count, program, faulty, room, NODES)
-            test_bytes(count, program, room, NODES, 400 if is_long else 130)
-            test_calls_beside_looks(count, program, room, NODES)
-            test_limits(count, program, room, NODES)
-            test_chaos(count, program, room, is_long)
-            test_faulty(count, faulty, room)
-            test_versions(count, faulty, room, NODES)
-            test_both_clients(count, program, library, room)
-            test_measure(count, library)
-            test_disks_and_links(count, program, faulty, room, is_long)
-            test_cuts(count, library, room, is_long)
-            if is_long:
-                test_clocks(count, library, room)
+            for test in tests_of(count, library, program, faulty, is_long):
+                with place(room) as folder:
+                    test(folder)
     return count.report()
 
 
