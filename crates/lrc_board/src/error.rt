@@ -5,7 +5,7 @@ use thiserror::Error;
 pub enum LookError {
     #[error("out of memory")]
     OutOfMemory = 1,
-    /// `left_right` returned no board, or one with fewer entries than the viewer has seen.
+    /// No board is shown, or one with fewer entries than the viewer has seen.
     #[error("there is no view")]
     NoView = 3,
 }

@@ -6,7 +6,7 @@ use thiserror::Error;
 pub enum OpenError {
     #[error("out of memory")]
     OutOfMemory = 1,
-    /// `left_right` returned no reader.
+    /// There was no reader for a viewer.
     #[error("there is no reader")]
     NoReader = 2,
     #[error("a manager has 1 to 8 sessions")]

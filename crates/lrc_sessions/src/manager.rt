@@ -44,7 +44,7 @@ impl<N: Naming> Manager<N> {
     ///
     /// # Errors
     ///
-    /// `OpenError::OutOfMemory`, or `OpenError::NoReader` if `left_right` returns no reader for a session.
+    /// `OpenError::OutOfMemory`, or `OpenError::NoReader` if there is no reader for a session.
     pub fn open<R: Wait>(
         alloc: Global,
         rt: &R,

@@ -75,7 +75,7 @@ impl<N: Naming> Session<N> {
     ///
     /// # Errors
     ///
-    /// Only `LookError::NoView`, if `left_right` returns no board that has as many entries as the session has seen.
+    /// Only `LookError::NoView`, if no board is shown that has as many entries as the session has seen.
     pub fn level_of(&mut self, stripe: StripeNo) -> Result<Seen<Option<Level>>, LookError>
         ensures session { (self.new.number ≡ self.old.number) × (self.new.made ≡ self.old.made) }
         ensures later { IsPrefix self.old.seen self.new.seen }
@@ -93,7 +93,7 @@ impl<N: Naming> Session<N> {
     ///
     /// # Errors
     ///
-    /// Only `LookError::NoView`, if `left_right` returns no board that has as many entries as the session has seen.
+    /// Only `LookError::NoView`, if no board is shown that has as many entries as the session has seen.
     pub fn load_of(&mut self, node: NodeNo) -> Result<Seen<Option<u32>>, LookError>
         ensures session { (self.new.number ≡ self.old.number) × (self.new.made ≡ self.old.made) }
         ensures later { IsPrefix self.old.seen self.new.seen }
@@ -111,7 +111,7 @@ impl<N: Naming> Session<N> {
     ///
     /// # Errors
     ///
-    /// `LookError::OutOfMemory` if the allocation fails; otherwise only `LookError::NoView`, if `left_right` returns no board that
+    /// `LookError::OutOfMemory` if the allocation fails; otherwise only `LookError::NoView`, if no board is shown that
     /// has as many entries as the session has seen.
     pub fn risk(&mut self, alloc: Global) -> Result<Seen<Vec<(StripeNo, Level)>>, LookError>
         ensures session { (self.new.number ≡ self.old.number) × (self.new.made ≡ self.old.made) }

@@ -1,0 +1,3 @@
+mod Plans
+mod Readers
+pub mod SidesKept
