@@ -82,8 +82,20 @@ def bars(one, other, same_class):
 # Reading
 
 
+class Text:
+    """A table that was read elsewhere, under a name, where a file is due."""
+
+    def __init__(self, name, text):
+        self.name, self.text = name, text
+
+    def __str__(self):
+        return self.name
+
+
 def read(path):
     """The text of a file, or of standard input for `-`."""
+    if isinstance(path, Text):
+        return path.text
     try:
         if path == "-":
             return sys.stdin.buffer.read().decode()

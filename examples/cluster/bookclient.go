@@ -41,8 +41,9 @@ func isUndetermined(err error) bool {
 // Call makes a command once. Where nobody tells what came of it, it asks again by the same key, however long that takes: whoever
 // went on as if it was not made would delete what it made, or leave what it was granted. The error is a client.KeyForgotten if
 // nobody can know any more; any other one says that nothing was made.
-func (b *Book) Call(worker string, command client.Command) (*client.Reply, error) {
-	options := []client.Option{client.WithWorker(worker)}
+func (b *Book) Call(worker string, command client.Command, more ...client.Option) (*client.Reply, error) {
+	asked := append([]client.Option{client.WithWorker(worker)}, more...)
+	options := asked
 	for {
 		reply, err := b.client.Call(context.Background(), b.name, command, options...)
 		var unknown *client.OutcomeUnknown
@@ -50,7 +51,7 @@ func (b *Book) Call(worker string, command client.Command) (*client.Reply, error
 			return reply, err
 		}
 		fmt.Printf("%s: %v\n", command, err)
-		options = append(options[:1], client.WithKey(unknown.Key, unknown.Since))
+		options = append(asked[:len(asked):len(asked)], client.WithKey(unknown.Key, unknown.Since))
 	}
 }
 

@@ -9,4 +9,5 @@ import "os"
 func init() {
 	hasFence = os.Getenv("CLUSTER_FAULT") != "fence"
 	comparesChecksums = os.Getenv("CLUSTER_FAULT") != "checksum"
+	keepsLimit = os.Getenv("CLUSTER_FAULT") != "targets"
 }

@@ -49,12 +49,13 @@ type options struct {
 	cluster *Cluster
 	folder  string
 	number  int
-	limit   int
+	wanted  choice
 }
 
 // parts are what the first word names.
 var parts = map[string]func(options) error{
 	"node": runNode, "gateway": runGateway, "worker": runWorker, "monitor": runMonitor, "scrub": runScrub,
+	"move": runMove,
 }
 
 func run(part func(options) error, words []string) error {
@@ -63,6 +64,7 @@ func run(part func(options) error, words []string) error {
 	folder := set.String("folder", "", "the folder of a node or of the gateway")
 	number := set.Int("number", 0, "the number of a node or of a worker")
 	limit := set.Int("targets", 0, "of a worker: the most leases with their target on one node, also of other workers; 0: any number")
+	noneMoved := set.Bool("repairs", false, "of a worker: take repairs alone, and leave moves to others")
 	if err := set.Parse(words); err != nil {
 		return err
 	}
@@ -73,12 +75,12 @@ func run(part func(options) error, words []string) error {
 	if *limit < 0 {
 		return fmt.Errorf("-targets is below 0")
 	}
-	return part(options{cluster, *folder, *number, *limit})
+	return part(options{cluster, *folder, *number, choice{*limit, *noneMoved}})
 }
 
 func main() {
 	if len(os.Args) < 2 || parts[os.Args[1]] == nil {
-		fmt.Fprintln(os.Stderr, "cluster: the first word has to be node, gateway, worker, monitor or scrub")
+		fmt.Fprintln(os.Stderr, "cluster: the first word has to be node, gateway, worker, monitor, scrub or move")
 		os.Exit(2)
 	}
 	if err := run(parts[os.Args[1]], os.Args[2:]); err != nil {

@@ -278,7 +278,7 @@ func TestAWorkerKeepsToTheLimit(t *testing.T) {
 		fake := &fakeBook{replies: map[string][]string{"lease": {it.lease}, "next": {granted(3, 8)}, "abandon": {ended}},
 			work: it.work, peeks: it.peeks, targets: it.targets}
 		book, nodes := newTest(t, fake)
-		found, err := (&worker{"w", book, nodes, it.limit}).next()
+		found, err := (&worker{"w", book, nodes, choice{limit: it.limit}}).next()
 		isRight := found == nil && it.want == 0 || found != nil && int(found.Fragment) == it.want
 		if !isRight || err != nil || !reflect.DeepEqual(fake.asked, it.asked) {
 			t.Errorf("%s: %+v %v, asked %q", it.name, found, err, fake.asked)

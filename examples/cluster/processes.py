@@ -16,7 +16,8 @@ from lrcmand_client import Client  # noqa: E402
 
 # A wide stripe takes 16 racks, and one more for each that is lost. With 18, and 12 upgrade domains, each stripe finds its seats
 # also while a rack is gone or a domain is upgrading.
-RACKS, DOMAINS, NODES, SLOTS = 18, 12, 36, 64
+RACKS, DOMAINS, SLOTS = 18, 12, 64
+NODES_OF_RACK = 2
 WORKERS, BOOK, TICK = 4, "p0", 5
 LIMIT = 120  # seconds, for whatever has to happen at some time
 
@@ -57,20 +58,22 @@ def ask(port, method, path, body=None, headers=None):
 
 
 class Node:
-    """Where a node stands, and its port and folder."""
+    """Where a node stands, how many slots it has, and its port and folder."""
 
-    def __init__(self, number, port, folder):
-        self.number, self.port, self.folder = number, port, os.path.join(folder, f"node-{number}")
-        self.rack, self.domain = number % RACKS, number % DOMAINS
+    def __init__(self, number, racks, slots, port, folder):
+        self.number, self.slots, self.port, self.folder = number, slots, port, os.path.join(folder, f"node-{number}")
+        self.rack, self.domain = number % racks, number % DOMAINS
 
 
 class Store:
-    """All processes, by name. What each of them says is in FOLDER/NAME.log."""
+    """All processes, by name. What each of them says is in FOLDER/NAME.log. Racks that come later are the last ones."""
 
-    def __init__(self, folder, lrcmand, program, members):
+    def __init__(self, folder, lrcmand, program, members, racks=RACKS, later=0, slots=(SLOTS,)):
         self.folder, self.lrcmand, self.program = folder, lrcmand, program
-        ports = free_ports(NODES + 2 * members + 1)
-        self.nodes = [Node(number, ports.pop(), folder) for number in range(NODES)]
+        count = NODES_OF_RACK * racks
+        ports = free_ports(count + 2 * members + 1)
+        self.nodes = [Node(number, racks, slots[number % len(slots)], ports.pop(), folder) for number in range(count)]
+        self.later = [node for node in self.nodes if node.rack >= racks - later]
         self.members = {number: (ports.pop(), ports.pop()) for number in range(1, members + 1)}
         self.gateway, self.processes = ports.pop(), {}
         self.client = Client([f"127.0.0.1:{client}" for _, client in self.members.values()], timeout=LIMIT)
@@ -97,9 +100,9 @@ class Store:
     def start_node(self, node):
         self.start_own(f"node-{node.number}", "node", "--number", str(node.number), "--folder", node.folder)
 
-    def start_workers(self):
+    def start_workers(self, *words):
         for number in range(1, WORKERS + 1):
-            self.start_own(f"worker-{number}", "worker", "--number", str(number))
+            self.start_own(f"worker-{number}", "worker", "--number", str(number), *words)
 
     def end_workers(self):
         for number in range(1, WORKERS + 1):
@@ -123,9 +126,11 @@ class Store:
         for _, client in self.members.values():
             until("lrcmand is ready", lambda port=client: self.is_up(port, "/health"))
         self.client.create(BOOK, self.topology())
+        for node in self.later:
+            self.change(f"fail {node.number}")  # (there is nothing on it, and the monitor joins it once it answers)
 
     def topology(self):
-        rows = [f"number = {it.number}\nfault = {it.rack}\nupgrade = {it.domain}\nslots = {SLOTS}\n" for it in self.nodes]
+        rows = [f"number = {it.number}\nfault = {it.rack}\nupgrade = {it.domain}\nslots = {it.slots}\n" for it in self.nodes]
         return "".join(f"[[node]]\n{row}" for row in rows)
 
     def start_all(self):
@@ -138,9 +143,10 @@ class Store:
         }
         with open(f"{self.folder}/cluster.json", "w", encoding="utf-8") as file:
             json.dump(value, file)
-        for node in self.nodes:
+        there = [node for node in self.nodes if node not in self.later]
+        for node in there:
             self.start_node(node)
-        for node in self.nodes:
+        for node in there:
             until(f"node {node.number} answers", lambda port=node.port: self.is_up(port))
         self.start_gateway()
         self.start_own("monitor", "monitor")
@@ -161,6 +167,19 @@ class Store:
         reply = self.call(command)["reply"]
         if reply != "changed":
             raise Wrong(f"{command}: {reply}")
+
+    def join(self, nodes):
+        """Nodes come with empty disks, and the monitor joins them."""
+        for node in nodes:
+            self.start_node(node)
+        until("nodes join", lambda: all(self.node_row(node.number)["mode"] == "active" for node in nodes))
+
+    def lose_rack(self, rack):
+        """The processes of a rack are killed, and their disks are gone; returns its nodes."""
+        lost = [node for node in self.nodes if node.rack == rack]
+        for node in lost:
+            self.lose_node(node)
+        return lost
 
     def node_row(self, number):
         return next(row for row in self.rows("/show/nodes") if row["node"] == number)

@@ -22,7 +22,7 @@ func mend(book *Book, nodes *Nodes, stripe, fragment, node int) (result, error) 
 	if reply.Kind != client.Granted { // (where a worker was faster, it finds the checksum wrong and rebuilds too)
 		return result{words: reply.Line}, nil
 	}
-	w := worker{"scrub", book, nodes, 0}
+	w := worker{"scrub", book, nodes, choice{}}
 	return w.repair(reply.Lease, []int{fragment})
 }
 

@@ -14,10 +14,10 @@ const (
 
 // A worker takes leases, brings the bytes of their fragments onto their targets, and reports.
 type worker struct {
-	name  string
-	book  *Book
-	nodes *Nodes
-	limit int // the most leases with their target on one node, also of other workers; 0: any number
+	name   string
+	book   *Book
+	nodes  *Nodes
+	wanted choice
 }
 
 // A result is what became of a lease.
@@ -79,10 +79,10 @@ func (w *worker) report(lease *client.Grant, name Name) (result, error) {
 
 // next asks for a lease.
 func (w *worker) next() (*client.Grant, error) {
-	if w.limit > 0 {
-		return w.book.NextWithin(w.name, w.limit)
+	if w.wanted.isAny() {
+		return w.book.Next(w.name)
 	}
-	return w.book.Next(w.name)
+	return w.book.NextOf(w.name, w.wanted)
 }
 
 // turn works on one lease, and tells whether there was one.
@@ -91,6 +91,11 @@ func (w *worker) turn() (bool, error) {
 	if err != nil || lease == nil {
 		return false, err
 	}
+	return w.work(lease)
+}
+
+// work does the work of a lease, and says what became of it.
+func (w *worker) work(lease *client.Grant) (bool, error) {
 	done, err := w.repair(lease, nil)
 	fmt.Printf("stripe %d fragment %d epoch %d %s reads %d: %s\n", lease.Stripe, lease.Fragment, lease.Epoch, lease.Repair,
 		done.reads, done.words)
@@ -102,7 +107,7 @@ func runWorker(given options) error {
 	if err != nil {
 		return err
 	}
-	w := &worker{fmt.Sprintf("worker-%d", given.number), book, newNodes(given.cluster, limitOfNodes), given.limit}
+	w := &worker{fmt.Sprintf("worker-%d", given.number), book, newNodes(given.cluster, limitOfNodes), given.wanted}
 	for {
 		isDone, err := w.turn()
 		if err != nil {
