@@ -37,7 +37,7 @@ class NewRack:
     def even_out(self):
         """Rounds of tools/balance, whose moves are made while objects are read."""
         begun, before, rounds = self.demo.entries(), self.demo.repairs(), 0
-        is_over, read, reader = threading.Event(), [], None
+        is_over, read = threading.Event(), []
 
         def load():
             while not is_over.is_set():
@@ -47,15 +47,20 @@ class NewRack:
         reader = threading.Thread(target=load)
         reader.start()
         try:
-            while script := self.plan():
-                self.move(script)
-                if (rounds := rounds + 1) > MOST_ROUNDS:
+            while True:
+                at, script = self.demo.entries(), self.plan()
+                if script:
+                    self.move(script)
+                    rounds += 1
+                elif self.demo.entries() == at:
+                    break
+                if rounds > MOST_ROUNDS:
                     raise Wrong(f"{MOST_ROUNDS} rounds, and there is still a script")
         finally:
             is_over.set()
             reader.join()
         moves = [it for it in set(self.demo.repairs()) - set(before) if it[3] == "move"]
-        self.demo.report["share"] = {"from": begun, "to": self.demo.entries(), "rounds": rounds, "moves": len(moves),
+        self.demo.report["share"] = {"from": begun, "to": at, "rounds": rounds, "moves": len(moves),
                                      "reads": len(read), "within": WITHIN, "at_once": AT_ONCE}
         self.demo.say(f"{rounds} rounds of moves, beside {len(read)} reads")
         self.demo.say_repairs(before)

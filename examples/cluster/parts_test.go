@@ -27,6 +27,8 @@ type fakeBook struct {
 	asked   []string
 	faults  []string // of calls, each before it is replied to: a status and a code
 	keys    []string // key and since of each call as it came
+
+	positions []string // at and opens of each call
 }
 
 func (f *fakeBook) ServeHTTP(w http.ResponseWriter, r *http.Request) {
@@ -71,16 +73,20 @@ func (f *fakeBook) ServeHTTP(w http.ResponseWriter, r *http.Request) {
 func (f *fakeBook) call(w http.ResponseWriter, r *http.Request) {
 	var body struct {
 		Command, Worker, Key string
-		Since                uint64
+		Since, At, Opens     uint64
 	}
 	if json.NewDecoder(r.Body).Decode(&body) != nil {
 		w.WriteHeader(http.StatusBadRequest)
 	}
 	f.keys = append(f.keys, fmt.Sprint(body.Key, " ", body.Since))
+	f.positions = append(f.positions, fmt.Sprint(body.At, " ", body.Opens))
+	fault := ""
 	if len(f.faults) > 0 {
+		fault, f.faults = f.faults[0], f.faults[1:]
+	}
+	if fault != "" {
 		status, code := 0, ""
-		fmt.Sscan(f.faults[0], &status, &code)
-		f.faults = f.faults[1:]
+		fmt.Sscan(fault, &status, &code)
 		w.WriteHeader(status)
 		fmt.Fprintf(w, `{"status":%d,"error":"words","code":"%s"}`, status, code)
 		return
@@ -90,7 +96,7 @@ func (f *fakeBook) call(w http.ResponseWriter, r *http.Request) {
 	if len(replies) > 1 {
 		f.replies[strings.Fields(body.Command)[0]] = replies[1:]
 	}
-	fmt.Fprint(w, replies[0])
+	fmt.Fprint(w, strings.Replace(replies[0], "{", fmt.Sprintf(`{"n":%d,`, body.At+1), 1))
 }
 
 const (
@@ -161,7 +167,7 @@ func TestAWorkerReportsWhatItWrote(t *testing.T) {
 	} {
 		fake := &fakeBook{replies: map[string][]string{"done": it.done, "abandon": {ended}}, recipes: it.recipes}
 		book, nodes := newTest(t, fake)
-		w := worker{"w", book, nodes, 0}
+		w := worker{"w", book, nodes, choice{}}
 		done, err := w.repair(lease(it.target, 2), nil)
 		text, _ := nodes.Read(8, 1, 3)
 		isRight := it.want == 0 && text == nil || it.want != 0 && bytes.Equal(text, full(it.want))
@@ -177,7 +183,7 @@ func TestALateWorkerLeavesWhatIsNewer(t *testing.T) {
 	if err := nodes.Write(8, Name{1, 3, 5}, full(9)); err != nil {
 		t.Fatal(err)
 	}
-	done, err := (&worker{"w", book, nodes, 0}).repair(lease(8, 4), nil)
+	done, err := (&worker{"w", book, nodes, choice{}}).repair(lease(8, 4), nil)
 	if text, _ := nodes.Read(8, 1, 3); !bytes.Equal(text, full(9)) || done.isDone || err != nil || len(fake.asked) != 1 {
 		t.Errorf("%.3v %+v %v %q", text, done, err, fake.asked)
 	}
@@ -199,7 +205,7 @@ func TestAReportThatNobodyTellsOf(t *testing.T) {
 	} {
 		fake := &fakeBook{replies: map[string][]string{"done": {ended}}, recipes: map[string]string{"": source(0, 1)}, faults: it.faults}
 		book, nodes := newTest(t, fake)
-		done, err := (&worker{"w", book, nodes, 0}).repair(lease(8, 4), nil)
+		done, err := (&worker{"w", book, nodes, choice{}}).repair(lease(8, 4), nil)
 		var forgotten *client.KeyForgotten
 		if errors.As(err, &forgotten) != strings.HasPrefix(it.name, "may be made") || done.isDone != it.isDone {
 			t.Errorf("%s: %+v %v", it.name, done, err)
@@ -241,51 +247,6 @@ func TestACommandGoesOnByItsKey(t *testing.T) {
 }
 
 // granted is the reply that leases a fragment of stripe 1.
-func granted(fragment, node int) string {
-	return fmt.Sprintf(`{"reply":"granted","kind":"granted","stripe":1,"fragment":%d,"target":"%d:0","epoch":1,"repair":"move"}`,
-		fragment, node)
-}
-
-func TestAWorkerKeepsToTheLimit(t *testing.T) {
-	row := func(fragment int, standing string) string {
-		return fmt.Sprintf(`{"stripe":1,"fragment":%d,"kind":"move","standing":"%s"}`, fragment, standing)
-	}
-	work := row(2, "leased") + "," + row(3, "open") + "," + row(4, "open") + "," + row(5, "no_node")
-	both := map[string]string{"lease 1 3": granted(3, 8), "lease 1 4": granted(4, 7)}
-	for _, it := range []struct {
-		name    string
-		limit   int
-		work    string
-		peeks   map[string]string
-		targets []int
-		lease   string
-		asked   []string
-		want    int // the fragment; 0: none
-	}{
-		{"any number", 0, work, map[string]string{"next": granted(3, 8)}, []int{9}, refused(101), []string{"peek next", "next"}, 3},
-		{"well", 2, work, both, []int{1, 2}, granted(3, 8), []string{"peek lease 1 3", "lease 1 3"}, 3},
-		{"the first target has enough", 2, work, both, []int{2, 2}, granted(4, 7),
-			[]string{"peek lease 1 3", "peek lease 1 4", "lease 1 4"}, 4},
-		{"the first one has no seat", 2, work, map[string]string{"lease 1 4": granted(4, 7)}, []int{0}, granted(4, 7),
-			[]string{"peek lease 1 3", "peek lease 1 4", "lease 1 4"}, 4},
-		{"another worker was first", 2, work, both, []int{1, 2}, refused(110), []string{"peek lease 1 3", "lease 1 3"}, 0},
-		{"another worker came between", 2, work, both, []int{1, 3}, granted(3, 8),
-			[]string{"peek lease 1 3", "lease 1 3", "abandon 1 3 1"}, 0},
-		{"the target is another one then", 2, work, both, []int{1, 3}, granted(3, 7), []string{"peek lease 1 3", "lease 1 3"}, 3},
-		{"all have enough", 1, row(3, "open"), both, []int{1}, refused(101), []string{"peek lease 1 3"}, 0},
-		{"nothing to do", 1, "", both, []int{0}, refused(101), nil, 0},
-	} {
-		fake := &fakeBook{replies: map[string][]string{"lease": {it.lease}, "next": {granted(3, 8)}, "abandon": {ended}},
-			work: it.work, peeks: it.peeks, targets: it.targets}
-		book, nodes := newTest(t, fake)
-		found, err := (&worker{"w", book, nodes, choice{limit: it.limit}}).next()
-		isRight := found == nil && it.want == 0 || found != nil && int(found.Fragment) == it.want
-		if !isRight || err != nil || !reflect.DeepEqual(fake.asked, it.asked) {
-			t.Errorf("%s: %+v %v, asked %q", it.name, found, err, fake.asked)
-		}
-	}
-}
-
 func TestAMonitorWaitsBeforeItTells(t *testing.T) {
 	for _, it := range []struct {
 		row     client.Node
