@@ -72,9 +72,9 @@ func labelsByMetric(t *testing.T) map[string]map[string]bool {
 	if err != nil {
 		t.Fatal(err)
 	}
-	found := map[string]map[string]bool{"up": {}}
+	found := map[string]map[string]bool{"up": {"job": true, "instance": true}, "ALERTS": {"alertname": true, "alertstate": true}}
 	for _, family := range families {
-		labels := map[string]bool{}
+		labels := map[string]bool{"job": true, "instance": true} // (which Prometheus adds)
 		for _, pair := range family.Metric[0].Label {
 			labels[pair.GetName()] = true
 		}
@@ -241,7 +241,7 @@ func (p *parser) names() {
 	}
 }
 
-var aggregations = map[string]bool{"sum": true, "max": true, "min": true, "group": true, "count": true}
+var aggregations = map[string]bool{"sum": true, "max": true, "min": true, "group": true, "count": true, "topk": true}
 var functions = map[string]bool{"rate": true, "increase": true, "min_over_time": true, "max_over_time": true, "absent": true, "changes": true,
 	"time": true}
 
@@ -256,6 +256,9 @@ func (p *parser) value() {
 			p.names()
 		}
 		p.want("(")
+		if word == "topk" {
+			p.count()
+		}
 		p.binary()
 		p.want(")")
 	case functions[word]:
@@ -270,6 +273,14 @@ func (p *parser) value() {
 		p.fail("a value is due")
 	}
 	p.range_()
+}
+
+// count reads how many topk takes.
+func (p *parser) count() {
+	if !regexp.MustCompile("^[0-9]+$").MatchString(p.take()) {
+		p.fail("a number is due")
+	}
+	p.want(",")
 }
 
 func (p *parser) metric(metric string) {
