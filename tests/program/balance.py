@@ -12,7 +12,8 @@ round what it leases is reported. Right is:
 - When the script is empty, no lawful move helps: each fragment is tried on each node by the model. So the share of each node is
   near the mean where the rules allow it. The moves are at most an eighth more than the least possible, whatever the rules.
 - With --dry it tells the spread that the model counts now, and after the last round.
-- Tables of `show fragments`, as the model makes them, give the same script.
+- Tables of `show fragments`, as the model makes them, give the same script; and so does a book over HTTP, of members that a test plays:
+  some are away, busy or wrong, and a book changes while it is read.
 With --write the pictures of the page are drawn anew. Bad input is refused by file, line and column. The last line is
 'N passed, M failed'."""
 import contextlib
@@ -34,6 +35,7 @@ from tests.harness import TOP, topology_of
 from tests.model import shown
 from tests.model.rules import Node
 from tests.model.store import Store
+from tests.program.books import test_books
 
 TOOL = f"{TOP}/tools/balance"
 FRAGMENTS = "stripe,fragment,node,slot,fault,upgrade,state,mode,why,target,holder,epoch,expiry"
@@ -301,6 +303,8 @@ def new_rack(count, program):
         run.call([*(f"fail {node}" for node in new), *places, *(f"join {node}" for node in new)])
         before, page = spread(run.store, 5), harness.read(f"{TOP}/docs/OPERATING.md").decode()
         run.tables()
+        tables = {view: harness.read(f"{folder}/{view}.csv").decode() for view in VIEWS}
+        test_books(count, folder, tables, "".join(f"{line}\n" for line in run.tool()))
         dry = "".join(f"    {line}\n" for line in run.tool("--dry"))
         count.check(f"docs/OPERATING.md has another table than {dry}", dry in page)
         look_at_picture(count, folder, "uneven", "Before")
