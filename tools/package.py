@@ -44,7 +44,7 @@ DOCUMENTS = {
     "liblrc-embed-dev": ["docs/EMBEDDING.md", "docs/CODING.md", "examples/embed/late_worker.c", "examples/embed/late_worker.cpp",
                          "examples/embed/late_worker.rs"],
     "python3-lrc-embed": ["examples/embed/late_worker.py"],
-    "lrcmand": ["docs/SERVICE.md", "service/openapi.json", "service/alerts.yml"],
+    "lrcmand": ["docs/SERVICE.md", "service/openapi.json", "service/alerts.yml", "service/console.html"],
 }
 
 

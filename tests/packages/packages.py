@@ -21,7 +21,7 @@ BESIDE = {
         "EMBEDDING.md", "CODING.md", "examples/late_worker.c", "examples/late_worker.cpp", "examples/late_worker.rs")],
     "python3-lrc-embed": ["usr/share/doc/python3-lrc-embed/examples/late_worker.py"],
     "lrcmand": ["etc/default/lrcmand", "usr/share/lintian/overrides/lrcmand",
-                *(f"usr/share/doc/lrcmand/{it}" for it in ("SERVICE.md", "openapi.json", "alerts.yml"))],
+                *(f"usr/share/doc/lrcmand/{it}" for it in ("SERVICE.md", "openapi.json", "alerts.yml", "console.html"))],
 }
 
 

@@ -5,7 +5,10 @@ Usage: service/test [--long] [--library FOLDER], where FOLDER has what examples/
 - gofmt, go vet and staticcheck find nothing; the tests of each package pass with the race detector. Fuzz tests of the readers of calls,
   log entries and snapshot records run over their seeds. openapi.json is made of the table of routes, and each answer in the tests of the
   interface is held against it. Page, metrics and ctl show states and counts that the plain model wrote (internal/survey/recorded); the
-  rules of alerts are read by a parser that knows the metrics and labels; Chromium shows the page of each state as the model has it.
+  rules of alerts and the console are read by a parser that knows the metrics and labels; Chromium shows the page of each state as the
+  model has it.
+- promtool takes the rules of alerts, and their tests pass, and fail where a rule is changed. Prometheus scrapes a member, has an
+  answer to each rule, and shows in the console each state, from healthy to lost, with the counts of the model.
 - One member: it is ready within a second, is killed and continues; its tables are those of tests/model/shown.py, byte for byte, and its
   recipes are right by that model.
 - What an operator sees: versions and options, a start, an end under load without an election, what systemd is sent.
@@ -74,6 +77,7 @@ from tests.service.full_disk import test_full_disk
 from tests.service.limits import test_limits
 from tests.service.lost_folder import test_lost_folders
 from tests.service.members import test_members
+from tests.service.monitoring import test_monitoring
 from tests.service.move import test_move
 from tests.service.onceonly import test_once_only
 from tests.service.one_member import test_one_member
@@ -226,6 +230,7 @@ def test_both_clients(count, program, library, room):
 def tests_of(count, library, program, faulty, is_long):
     """The tests of members, in their order. Each takes the folder that it has to itself."""
     yield lambda room: test_one_member(count, program, room)
+    yield lambda room: test_monitoring(count, program, room, left_out)
     yield lambda room: test_move(count, program, room)
     yield lambda room: test_members(count, program, room, NODES)
     yield lambda room: test_once_only(count, program, faulty, room, NODES)
