@@ -7,7 +7,7 @@ import threading
 from processes import BOOK, HERE, Wrong, until
 
 BALANCE = os.path.join(os.path.dirname(os.path.dirname(HERE)), "tools/balance")
-LIMIT_OF_TARGETS, AT_ONCE, WITHIN = 1, 8, 5
+LIMIT_OF_TARGETS, AT_ONCE, WITHIN = 1, 4, 5
 SLOTS, LATER = (24, 32, 32, 40), 1  # slots of nodes in turn, and how many racks are not there at first
 LOST_RACK, MOST_ROUNDS = 3, 100
 

@@ -52,10 +52,12 @@ PRINTS = {
 TAKEN_OVER = [0, 1, 2, 3, 4, 5, 6, 7, 8, 9, 10, 11, 15, 12, 13, 14]
 
 
-def recipes():
-    """The blocks of shell on the page."""
+def recipes(of_service=False):
+    """The blocks of shell on the page; those that are of the service stand below their own head."""
     page = read(f"{TOP}/docs/OPERATING.md").decode()
-    return re.findall(r"^```sh\n(.*?)^```$", page, re.MULTILINE | re.DOTALL)
+    before, _, rest = page.partition("\n### A month of the service\n")
+    own, _, after = rest.partition("\n## ")
+    return re.findall(r"^```sh\n(.*?)^```$", own if of_service else f"{before}\n{after}", re.MULTILINE | re.DOTALL)
 
 
 class Shell:
@@ -127,7 +129,21 @@ class Month:
     def __init__(self, count, program, folder):
         self.count, self.shell, self.store, self.made = count, Shell(program, folder), Store(harness.nodes_in_order(20, 4)), 0
         self.functions = "".join(recipe for recipe in recipes() if re.match(r"\w+\(\) \{\n", recipe))
+        self.begin()
+
+    def begin(self):
         self.shell.write("store.sequel", harness.topology_of(self.store.nodes).encode() + b"%%\n")
+
+    def table(self, view):
+        """A table of the store, as the program shows it."""
+        return self.shell.lrcman(f"show {view}", self.shell.read("store.sequel")).stdout.decode()
+
+    def refuse(self):
+        """A command that can't be read is not made."""
+        kept = self.shell.read("store.sequel")
+        ran = self.shell.run(f"{self.functions}tell 'place x'")
+        self.count.check("a bad command is appended", ran.returncode == 1 and self.shell.read("store.sequel") == kept)
+        self.count.check(f"a bad command is told as {ran.stderr}", re.fullmatch("line [0-9]+ cause 3\n", ran.stderr))
 
     def run(self, call, printed, commands=(), status=0):
         """A function prints this, and makes these commands."""
@@ -136,8 +152,10 @@ class Month:
         wanted = "".join(f"{line}\n" for line in printed)
         self.made += len(commands)
         self.count.check(f"{call}: {ran.returncode} {ran.stdout!r} {ran.stderr}", (ran.returncode, ran.stdout) == (status, wanted))
-        table = self.shell.lrcman("show nodes", self.shell.read("store.sequel")).stdout.decode()
-        self.count.check(f"{call}: another store, after {replies}", table == shown.shown("nodes", self.store, self.made))
+        self.compare(f"{call}: another store, after {replies}")
+
+    def compare(self, name):
+        self.count.check(name, self.table("nodes") == shown.shown("nodes", self.store, self.made))
 
     def replies_to(self, commands):
         """What is printed of commands, by a copy of the model."""
@@ -184,10 +202,7 @@ def third_day(it):
     homeless = [f"no node for {row[0]} {row[1]}" for row in shown.work_rows(it.store) if row[5] == "no_node"]
     it.run("morning", ["1 nodes are down", *it.urgent(), *homeless], status=1)
     it.count.check("every fragment finds a node on the third day", homeless)
-    kept = it.shell.read("store.sequel")
-    ran = it.shell.run(f"{it.functions}tell 'place x'")
-    it.count.check("a bad command is appended", ran.returncode == 1 and it.shell.read("store.sequel") == kept)
-    it.count.check(f"a bad command is told as {ran.stderr}", re.fullmatch("line [0-9]+ cause 3\n", ran.stderr))
+    it.refuse()
 
 
 def month(count, program):
@@ -195,7 +210,7 @@ def month(count, program):
     with tempfile.TemporaryDirectory(prefix="lrcman-recipes-") as folder:
         it = Month(count, program, folder)
         names = re.findall(r"^(\w+)\(\)", it.functions, re.MULTILINE)
-        count.check(f"the functions of the month are {names}", names == ["tell", "morning", "leave", "night"])
+        count.check(f"the functions of the month are {names}", names == ["tell", "show", "forecast", "morning", "leave", "night"])
         for day in (first_day, second_day, third_day):
             day(it)
 
