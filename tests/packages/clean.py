@@ -42,12 +42,16 @@ def packed_root(room):
     if os.path.exists(file):
         return file, ""
     words = ["debootstrap", "--variant=minbase", f"--include={INCLUDED}", SUITE, root, MIRROR]
-    ran = ended(*ALONE, *words, timeout=3600)
+    try:
+        ran = ended(*ALONE, *words, timeout=3600)
+    except subprocess.TimeoutExpired:
+        return "", "debootstrap takes more than an hour"
     if ran.returncode:
         return "", (ran.stdout + ran.stderr).strip().splitlines()[-1]
-    subprocess.run(["tar", "-C", root, "-cf", f"{file}.new", "--exclude=./proc/*", "--exclude=./sys/*", "--exclude=./dev/*",
+    new = f"{file}.{os.getpid()}"  # (another run may make one too)
+    subprocess.run(["tar", "-C", root, "-cf", new, "--exclude=./proc/*", "--exclude=./sys/*", "--exclude=./dev/*",
                     "--exclude=./var/cache/apt/archives/*.deb", "."], check=True)
-    os.rename(f"{file}.new", file)
+    os.rename(new, file)
     return file, ""
 
 

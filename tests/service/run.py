@@ -12,6 +12,8 @@ Usage: service/test [--long] [--library FOLDER], where FOLDER has what examples/
 - One member: it is ready within a second, is killed and continues; its tables are those of tests/model/shown.py, byte for byte, and its
   recipes are right by that model.
 - What an operator sees: versions and options, a start, an end under load without an election, what systemd is sent.
+- The recipes of docs/OPERATING.md for a month run word for word: three days in a row, a rack that is lost and one that comes, rounds
+  of tools/balance, racks to be bought, and backups, of which one is restored. After each the book is that of the model.
 - A book moves from one member to another, call by call as the model has it.
 - Members at addresses where nobody listens don't strand a group, and changes that would are refused; a backup under load is restored
   with all that was acknowledged before it, with its keys and leases, and every book at one place of the log; a member continues alone
@@ -78,6 +80,7 @@ from tests.service.limits import test_limits
 from tests.service.lost_folder import test_lost_folders
 from tests.service.members import test_members
 from tests.service.monitoring import test_monitoring
+from tests.service.month import test_month
 from tests.service.move import test_move
 from tests.service.onceonly import test_once_only
 from tests.service.one_member import test_one_member
@@ -231,6 +234,7 @@ def tests_of(count, library, program, faulty, is_long):
     """The tests of members, in their order. Each takes the folder that it has to itself."""
     yield lambda room: test_one_member(count, program, room)
     yield lambda room: test_monitoring(count, program, room, left_out)
+    yield lambda room: test_month(count, program, room, left_out)
     yield lambda room: test_move(count, program, room)
     yield lambda room: test_members(count, program, room, NODES)
     yield lambda room: test_once_only(count, program, faulty, room, NODES)
