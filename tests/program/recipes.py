@@ -71,7 +71,7 @@ class Shell:
         self.environment = {**os.environ, "PATH": f"{folder}/bin:{os.environ['PATH']}"}
 
     def run(self, script):
-        how = {"cwd": self.folder, "env": self.environment, "capture_output": True, "text": True, "timeout": 60}
+        how = {"cwd": self.folder, "env": self.environment, "capture_output": True, "text": True, "timeout": 600}
         return subprocess.run(["bash", "-o", "pipefail", "-c", script], **how)
 
     def lrcman(self, words, given):
