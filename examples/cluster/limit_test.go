@@ -90,10 +90,12 @@ func TestAMoverMakesAScript(t *testing.T) {
 		{name: "nothing to do", isMade: true},
 		{name: "no position", script: "drain 4\n", fails: true},
 		{name: "moved at once", script: script, faults: []string{"409 moved"}},
-		{name: "moved later", script: script, faults: []string{"", "", "", "409 moved"}, asked: []string{"drain 4", "drain 5", "undrain 4", "undrain 5"}},
+		{name: "moved later", script: script, faults: []string{"", "", "", "409 moved"},
+			asked: []string{"drain 4", "drain 5", "undrain 4", "undrain 5"}},
 		{name: "refused", script: script, faults: []string{"", "403 forbidden"}, fails: true, asked: []string{"drain 4", "undrain 4"}},
 	} {
-		fake := &fakeBook{replies: map[string][]string{"drain": {changed}, "undrain": {changed}, "lease": {granted(3, 8)}}, faults: it.faults}
+		fake := &fakeBook{faults: it.faults,
+			replies: map[string][]string{"drain": {changed}, "undrain": {changed}, "lease": {granted(3, 8)}}}
 		book, nodes := newTest(t, fake)
 		m := &mover{worker: worker{nameOfMover, book, nodes, choice{}}, drained: map[string]bool{}}
 		isMade, err := m.make(strings.NewReader(it.script))

@@ -71,8 +71,8 @@ class NewRack:
         """What tools/balance prints of the book. A node that does not answer for a while takes part again first."""
         until("every stripe is whole", self.store.is_whole)
         server = ",".join(f"http://127.0.0.1:{client}" for _, client in self.store.members.values())
-        ran = subprocess.run([sys.executable, BALANCE, "--server", server, "--within", str(WITHIN), "--at-once", str(AT_ONCE), *words, BOOK],
-                             capture_output=True, text=True)
+        words = ["--server", server, "--within", str(WITHIN), "--at-once", str(AT_ONCE), *words, BOOK]
+        ran = subprocess.run([sys.executable, BALANCE, *words], capture_output=True, text=True)
         if ran.returncode:
             raise Wrong(f"tools/balance: {ran.stderr}")
         return ran.stdout
@@ -88,5 +88,5 @@ class NewRack:
         """The row of now, of the table of --dry."""
         names, now = (line.split(",") for line in self.plan("--dry").splitlines()[:2])
         row = dict(zip(names, now))
-        self.demo.say(f"shares {when}: {row['least']} to {row['most']} %, {row['mean']} in the mean; {row['above']} nodes are above by "
-                      f"{WITHIN} points, {row['below']} below")
+        self.demo.say(f"shares {when}: {row['least']} to {row['most']} %, {row['mean']} in the mean; {row['above']} nodes are above "
+                      f"by {WITHIN} points, {row['below']} below")

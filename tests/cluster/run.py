@@ -141,7 +141,8 @@ def test_new_racks(count, room, seed, objects):
     """Racks come; and workers that ignore the limit of targets are found."""
     for program, fault, phases in (("cluster", None, "targets,share"), ("faulty", "targets", "targets")):
         folder = f"{room}/{program}-racks"
-        status, said = run_demo(room, program, folder, seed, "--objects", objects, "--phases", phases, fault=fault, is_quiet=bool(fault))
+        words = ["--objects", objects, "--phases", phases]
+        status, said = run_demo(room, program, folder, seed, *words, fault=fault, is_quiet=bool(fault))
         is_well = status == 0 and said.endswith("everything was read back, byte for byte")
         if not count.check(f"the demo of new racks, {program}: {status}: {said[-2000:]}", is_well):
             continue

@@ -12,8 +12,8 @@ round what it leases is reported. Right is:
 - When the script is empty, no lawful move helps: each fragment is tried on each node by the model. So the share of each node is
   near the mean where the rules allow it. The moves are at most an eighth more than the least possible, whatever the rules.
 - With --dry it tells the spread that the model counts now, and after the last round.
-- Tables of `show fragments`, as the model makes them, give the same script; and so does a book over HTTP, of members that a test plays:
-  some are away, busy or wrong, and a book changes while it is read.
+- Tables of `show fragments`, as the model makes them, give the same script; and so does a book over HTTP, of members that a test
+  plays: some are away, busy or wrong, and a book changes while it is read.
 With --write the pictures of the page are drawn anew. Bad input is refused by file, line and column. The last line is
 'N passed, M failed'."""
 import contextlib

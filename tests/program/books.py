@@ -91,7 +91,8 @@ def test_books(count, folder, tables, script):
             status, out, err = asked([url(one)])
             is_told = status == 2 and not out and err.startswith(f"tools/balance: {why}") and err.count("\n") == 1
             count.check(f"{name}: {status} {out} {err}", is_told)
-    for words, why in ((["h1:7421"], "--server: a member is http://HOST:PORT"), (["http://h1/x"], "--server: a member is http://HOST:PORT"),
+    for words, why in ((["h1:7421"], "--server: a member is http://HOST:PORT"),
+                       (["http://h1/x"], "--server: a member is http://HOST:PORT"),
                        (["http://127.0.0.1:1", "--token-file", f"{folder}/none"], f"{folder}/none: No such file or directory"),
                        (["https://127.0.0.1:1", "--ca", f"{folder}/none"], f"--ca: {folder}/none: No such file or directory")):
         status, out, err = asked(words[:1], *words[1:])

@@ -1,4 +1,4 @@
-"""What Prometheus makes of the metrics: service/alerts.yml and its tests by promtool, and service/console.html by Prometheus itself."""
+"""What Prometheus makes of the metrics: service/alerts.yml and its tests by promtool, and service/console.html by itself."""
 import html
 import json
 import os
@@ -42,7 +42,8 @@ def test_rules(count):
 def test_wrong_rules(count, room):
     """Rules that were changed are found by the tests of the rules."""
     text, tests = (harness.read(f"{SERVICE}/{name}").decode() for name in ("alerts.yml", "alerts_test.yml"))
-    for name, old, new in (("earlier", "for: 15m", "for: 14m"), ("fewer", "> 1000\n", "> 1001\n"), ("a level", 'level="lost"', 'level="risk"'),
+    for name, old, new in (("earlier", "for: 15m", "for: 14m"), ("fewer", "> 1000\n", "> 1001\n"),
+                           ("a level", 'level="lost"', 'level="risk"'),
                            ("a sum", "max by (job, book) (lrcmand_stripes", "sum by (job, book) (lrcmand_stripes"),
                            ("no hour", ">= max by (job, book) (sum", "<= max by (job, book) (sum")):
         count.check(f"the rules have no {old!r}", old in text)
@@ -131,7 +132,8 @@ def wanted(store):
 def seen(tables):
     """What the console shows of that."""
     return {
-        "Stripes": sorted(tables.get("Stripes", ())), "Books": tables.get("Books"), "Live": [it for it in tables.get("Live", ()) if len(it[0]) == 1],
+        "Stripes": sorted(tables.get("Stripes", ())), "Books": tables.get("Books"),
+        "Live": [it for it in tables.get("Live", ()) if len(it[0]) == 1],
         "The": [it[3] for it in tables.get("The", ())],
     }
 

@@ -5,6 +5,7 @@ import shutil
 import time
 
 from tests import harness
+from tests.model import shown
 from tests.model.rules import Node
 from tests.model.store import Store
 from tests.program import recipes
@@ -42,7 +43,8 @@ class Month(recipes.Month):
 
     def refuse(self):
         ran = self.shell.run(f"{self.functions}tell 'place x'")
-        self.count.check(f"a bad command: {ran.returncode} {ran.stdout} {ran.stderr}", ran.returncode == 1 and not ran.stdout and ran.stderr)
+        is_told = ran.returncode == 1 and not ran.stdout and ran.stderr
+        self.count.check(f"a bad command: {ran.returncode} {ran.stdout} {ran.stderr}", is_told)
         self.compare("a bad command is made")
 
     def report(self):
@@ -56,8 +58,9 @@ class Month(recipes.Month):
         while rounds < MOST_ROUNDS:
             ran = self.shell.run(f"{self.functions}even")
             script = self.shell.read("round.script").decode().splitlines()[1:]
-            printed = "".join(f"{line}\n" for line in self.replies_to(script))
-            self.count.check(f"even: {ran.returncode} {ran.stdout!r} {ran.stderr}, and not {printed!r}", (ran.returncode, ran.stdout) == (0, printed))
+            right = 0, "".join(f"{line}\n" for line in self.replies_to(script))
+            told = ran.returncode, ran.stdout
+            self.count.check(f"even: {told} {ran.stderr}, and not {right}", told == right)
             if not script:
                 break
             rounds, self.made = rounds + 1, self.made + len(script)
@@ -70,8 +73,8 @@ class Month(recipes.Month):
 
     def lose(self, rack):
         """Gives up a rack, if no stripe is harmed by that."""
-        lost = [f"fail {number}" for number, node in self.store.nodes.items() if node.fault == rack and self.store.mode[number] != "gone"]
-        self.make(f"lose {rack}", *lost)
+        nodes, mode = self.store.nodes, self.store.mode
+        self.make(f"lose {rack}", *(f"fail {it}" for it in nodes if nodes[it].fault == rack and mode[it] != "gone"))
 
     def come(self, nodes):
         """Nodes join the book."""
@@ -114,7 +117,7 @@ def racks(it):
 
 def harm_of(it, rack):
     """The forecast for the loss of a rack."""
-    return recipes.shown.forecast("may-lose", it.store, [number for number, node in it.store.nodes.items() if node.fault == rack])[0]
+    return shown.forecast("may-lose", it.store, [number for number, node in it.store.nodes.items() if node.fault == rack])[0]
 
 
 def placed_over(nodes):
@@ -128,7 +131,8 @@ def placed_over(nodes):
 def plan(it):
     """Nodes that are to be bought: as many in the racks that are there, and in racks of their own."""
     there = {number: Node(number % 16, number % 8, 4) for number in range(32)}
-    choices = {"nodes": {32 + at: Node(at % 16, at % 8, 4) for at in range(8)}, "racks": {32 + at: Node(16 + at // 2, 8 + at % 4, 4) for at in range(8)}}
+    choices = {"nodes": {32 + at: Node(at % 16, at % 8, 4) for at in range(8)},
+               "racks": {32 + at: Node(16 + at // 2, 8 + at % 4, 4) for at in range(8)}}
     found = {}
     for name, bought in choices.items():
         it.shell.write(f"{name}.toml", harness.topology_of({**there, **bought}).encode())

@@ -5,8 +5,8 @@ Usage: service/test [--long] [--library FOLDER], where FOLDER has what examples/
 - gofmt, go vet and staticcheck find nothing; the tests of each package pass with the race detector. Fuzz tests of the readers of calls,
   log entries and snapshot records run over their seeds. openapi.json is made of the table of routes, and each answer in the tests of the
   interface is held against it. Page, metrics and ctl show states and counts that the plain model wrote (internal/survey/recorded); the
-  rules of alerts and the console are read by a parser that knows the metrics and labels; Chromium shows the page of each state as the
-  model has it.
+  rules of alerts and the console are read by a parser that knows the metrics and labels; Chromium shows the page of each state as
+  the model has it.
 - promtool takes the rules of alerts, and their tests pass, and fail where a rule is changed. Prometheus scrapes a member, has an
   answer to each rule, and shows in the console each state, from healthy to lost, with the counts of the model.
 - One member: it is ready within a second, is killed and continues; its tables are those of tests/model/shown.py, byte for byte, and its

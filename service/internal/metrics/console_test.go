@@ -11,7 +11,8 @@ import (
 
 // Each thing that a group is to show, as a metric that the console asks for.
 var shownByConsole = []string{"lrcmand_stripes", "lrcmand_missing_fragments", "lrcmand_work_fragments", "lrcmand_leases",
-	"lrcmand_lease_oldest_seconds", "lrcmand_domain_held_seats", "lrcmand_domain_slots", "lrcmand_disk_free_bytes", "lrcmand_raft_leader", "ALERTS"}
+	"lrcmand_lease_oldest_seconds", "lrcmand_domain_held_seats", "lrcmand_domain_slots", "lrcmand_disk_free_bytes",
+	"lrcmand_raft_leader", "ALERTS"}
 
 var (
 	asking = regexp.MustCompile(`\bquery \(?(?:printf )?("(?:[^"\\]|\\.)*")`)
@@ -78,8 +79,8 @@ func TestTheConsoleIsATemplate(t *testing.T) {
 // What an expression of the console may not be is found.
 func TestAWrongConsoleIsFound(t *testing.T) {
 	metrics, text := labelsByMetric(t), console(t)
-	for _, it := range [][2]string{{"lrcmand_missing_fragments", "lrcmand_missing_fragment"}, {"age_ticks) (lrcmand", "age_ticks (lrcmand"},
-		{`standing=\"no_node\"`, `standings=\"no_node\"`}, {"topk(50, ", "topk("}} {
+	for _, it := range [][2]string{{"lrcmand_missing_fragments", "lrcmand_missing_fragment"},
+		{"age_ticks) (lrcmand", "age_ticks (lrcmand"}, {`standing=\"no_node\"`, `standings=\"no_node\"`}, {"topk(50, ", "topk("}} {
 		isFound := false
 		for _, expression := range expressions(t, strings.Replace(text, it[0], it[1], 1)) {
 			isFound = isFound || checkExpression(expression, metrics) != nil
