@@ -96,6 +96,7 @@ def test(count, room, built):
     if not shutil.which("lintian"):
         left_out("what lintian finds", "there is no lintian")
     elif made:
-        ran = ended("lintian", "--fail-on", "error,warning", *made.values())
+        # (it leaves files in the folder for temporary ones)
+        ran = ended("lintian", "--fail-on", "error,warning", *made.values(), env={**os.environ, "TMPDIR": room})
         count.check(f"lintian: {ran.stdout}{ran.stderr}", ran.returncode == 0)
     return made
