@@ -106,7 +106,9 @@ func runMove(given options) error {
 	m := &mover{worker: worker{nameOfMover, book, newNodes(given.cluster, limitOfNodes), choice{}}, drained: map[string]bool{}}
 	isMade, err := m.make(os.Stdin)
 	if !isMade {
-		fmt.Println("the script is not made to its end: another command came between, or", err)
+		if err == nil {
+			fmt.Println("another command came between: the rest of the script is not made")
+		}
 		if failed := m.undrain(); err == nil {
 			err = failed
 		}
