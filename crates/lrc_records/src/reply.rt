@@ -1,8 +1,10 @@
 ghost use Rattle.std.specs.Prelude.{◌≡◌, ◌↔◌, true};
+ghost use Rattle.lrc_answers.specs.Answers.{lent};
 ghost use Rattle.lrc_records.specs.Replies.{encoded_refusal, encoded_reply};
 
 use crate::repair::repair_of;
 use crate::{LrcLease, LrcSeat};
+use lrc_answers::ReplyRef;
 use lrc_rules::{Refusal, Reply};
 
 /// A reply. `set` has the kinds, and `repair_of` those of a repair. A field that the kind does not use is 0.
@@ -42,39 +44,40 @@ impl LrcReply {
         ensures { result ≡ encoded_reply reply.now }
     {
         let mut encoded = BLANK;
-        encoded.set(reply);
+        encoded.set(&ReplyRef::of(reply));
         encoded
     }
 
-    /// Becomes the record of a reply, written in place: a copy of the whole struct takes as long as a small command.
-    pub fn set(&mut self, reply: &Reply)
-        ensures { self.new ≡ encoded_reply reply.now }
+    /// Becomes the record of a reply, written in place from where the reply is kept: a copy of it takes as long as a small
+    /// command.
+    pub fn set(&mut self, reply: &ReplyRef<'_>)
+        ensures { self.new ≡ encoded_reply (lent reply.now) }
     {
         *self = BLANK;
-        match reply {
-            Reply::Placed(seats) => {
+        match *reply {
+            ReplyRef::Placed(seats) => {
                 self.kind = 1;
                 self.seats = LrcSeat::of_all(seats);
             }
-            Reply::Dropped => self.kind = 2,
-            Reply::Granted(lease, kind) => {
+            ReplyRef::Dropped => self.kind = 2,
+            ReplyRef::Granted(lease, kind) => {
                 self.kind = 3;
                 self.lease = LrcLease::in_reply(lease);
                 (self.repair, self.sources) = repair_of(kind);
             }
-            Reply::Idle => self.kind = 4,
-            Reply::Ended => self.kind = 5,
-            Reply::Changed => self.kind = 6,
-            Reply::Refused(refusal) => {
+            ReplyRef::Idle => self.kind = 4,
+            ReplyRef::Ended => self.kind = 5,
+            ReplyRef::Changed => self.kind = 6,
+            ReplyRef::Refused(refusal) => {
                 self.kind = 7;
-                (self.refusal, self.detail) = refusal_of(refusal);
+                (self.refusal, self.detail) = refusal_of(&refusal);
             }
-            Reply::Ticked { clock, ended } => {
+            ReplyRef::Ticked { clock, ended } => {
                 self.kind = 8;
-                self.clock = *clock;
-                self.ended = *ended;
+                self.clock = clock;
+                self.ended = ended;
             }
-            Reply::Placed6(seats) => {
+            ReplyRef::Placed6(seats) => {
                 self.kind = 9;
                 self.seats = LrcSeat::of_all(seats);
             }

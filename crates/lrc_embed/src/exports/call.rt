@@ -6,7 +6,7 @@ ghost use Rattle.lrc_embed.specs.Statuses.{IsOneOf};
 
 use crate::LrcHandle;
 use crate::status::{DONE, FULL, IS_CLOSED, OUT_OF_MEMORY, OUT_OF_RANGE};
-use lrc_book::{Book, Command};
+use lrc_book::{Book, Command, ReplyRef};
 use lrc_code::{Fault, SessionNo};
 use lrc_records::{LrcCommand, LrcReply};
 use std::alloc::Global;
@@ -88,7 +88,7 @@ pub(super) fn decide(book: &Book, session: SessionNo, command: Command, reply: &
 {
     match book.decide(session, command) {
         Ok(entry) => {
-            reply.set(&entry.reply);
+            reply.set(&ReplyRef::of(&entry.reply));
             DONE
         }
         Err(_) => FULL,
@@ -123,6 +123,6 @@ fn write_last_reply(book: &Book, reply: &mut LrcReply)
     ensures { (past : List Entry) (e : Entry) → book.now.history ≡ past ++ e ∷ [] → reply.new ≡ encoded_reply e.reply }
 {
     if let Some(record) = book.history().last() {
-        reply.set(&record.reply());
+        reply.set(&record.reply_ref());
     }
 }
