@@ -109,7 +109,16 @@ class Book {
         done("call", lrc_embed_call(&handle, session, &command, &reply));
         return reply;
     }
-    // The same, if the store has made `place` entries so far; else it throws, with LRC_MOVED.
+    // Makes the calls of the sessions and commands of these entries, one after the other, and writes each entry there. It returns how
+    // many are made and the status, which is done, or why the next call is not made; those before it stay.
+    std::pair<std::size_t, std::uint32_t> calls(std::vector<lrc_entry> &entries) {
+        std::size_t made = 0;
+        static lrc_entry none{};
+        auto status = lrc_embed_calls(&handle, entries.empty() ? &none : entries.data(), entries.size(), &made);
+        if (status == LRC_IS_CLOSED) throw Fault("calls", status);
+        return {made, status};
+    }
+    // A call, if the store has made `place` entries so far; else it throws, with LRC_MOVED.
     lrc_reply call_at(std::uint64_t place, std::uint8_t session, const lrc_command &command) {
         lrc_reply reply{};
         done("call_at", lrc_embed_call_at(&handle, place, session, &command, &reply));
@@ -350,6 +359,12 @@ static int run() {
         if (fault.status != LRC_MOVED) return 1;
     }
 
+    // the same calls in one go have the same entries
+    Book grouped(twenty_nodes());
+    std::vector<lrc_entry> asked(script.size());
+    for (std::size_t i = 0; i < script.size(); i++) asked[i].session = 1, asked[i].command = script[i];
+    auto made = grouped.calls(asked);
+    if (made.first != script.size() || made.second != LRC_DONE || grouped.image() != book.image()) return 1;
     Book again(twenty_nodes(), log);
     std::printf("replayed %zu\n", again.count());
     // a book that begins in the image has its state, and the entries are those before it

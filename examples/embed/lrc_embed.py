@@ -5,9 +5,10 @@ from ctypes import c_bool, c_size_t, c_uint8, c_uint16, c_uint32, c_uint64, c_vo
 from enum import IntEnum
 from operator import index as whole
 
-VERSION, RULES_VERSION, STRIPES, FRAGMENTS, NARROW_FRAGMENTS, SESSIONS, HISTORY_LIMIT = 5, 1, 4096, 16, 10, 8, 1_000_000
-NODES, SLOTS = 512, 256
+VERSION, RULES_VERSION, STRIPES, FRAGMENTS, NARROW_FRAGMENTS, SESSIONS, HISTORY_LIMIT = 6, 1, 4096, 16, 10, 8, 1_000_000
+NODES, SLOTS, IMAGE_MOST = 512, 256, 3855418
 IMAGE_ROOM = 1 << 20  # room for the image of a store of 4,096 stripes, but for a few: to ask how much it needs costs as much as it does
+TABLE_ROOM = 1 << 20  # room for the table of as many stripes, for the same reason
 
 
 class Status(IntEnum):
@@ -29,6 +30,10 @@ class LineCause(IntEnum):
 class CommandKind(IntEnum):
     PLACE, DROP, LEASE, NEXT, REPORT, ABANDON, REVOKE, FAIL = range(1, 9)
     DOWN, UP, DRAIN, UNDRAIN, RETIRE, JOIN, UPGRADE, UPGRADED, TICK, PLACE6 = range(9, 19)
+
+
+class Field(IntEnum):
+    STRIPE, FRAGMENT, EPOCH, NODE, DOMAIN = range(1, 6)
 
 
 class ReplyKind(IntEnum):
@@ -247,13 +252,22 @@ def text_by(write, room=256):
 
 # The words for numbers, and the type of the number of each.
 NAMES = {"status_name": c_uint32, "reply_name": c_uint8, "refusal_name": c_uint8, "level_name": c_uint8, "mode_name": c_uint8,
-         "code_name": c_uint8, "repair_name": c_uint8, "line_words": c_uint32, "cause_words": c_uint32, "nodes_words": c_uint32}
+         "code_name": c_uint8, "repair_name": c_uint8, "command_name": c_uint8, "line_words": c_uint32, "cause_words": c_uint32, "nodes_words": c_uint32}
 
 
 def words_of(library, table, number):
     """The words that one of NAMES has for a number below 256. None if it has none."""
     number = NAMES[table](within("number of a word", number))
     return text_by(lambda *to: getattr(library, f"lrc_embed_{table}")(number, *to))[1]
+
+
+def fields_of(library, kind):
+    """The numbers that commands of a kind have, in the order of their lines."""
+    fields, count = (c_uint8 * len(Field))(), c_size_t()
+    status = library.lrc_embed_command_fields(c_uint8(within("kind", kind)), fields, c_size_t(len(fields)), ctypes.byref(count))
+    if status != Status.DONE:
+        raise Fault("command_fields", status)
+    return [Field(field) for field in fields[:count.value]]
 
 
 class BadLine(ValueError):
@@ -415,6 +429,17 @@ class Book:
         """Makes a call, and returns its entry."""
         return self.result_of("call_entry", Entry(), c_uint8(within("session", session)), ctypes.byref(command))
 
+    def calls(self, asked):
+        """Makes calls, each a pair of session and command, one after the other, and returns their entries, and the status: done,
+        or why the first call that could not be made is not. The entries are those of the calls before it, which stay made."""
+        entries, made = (Entry * len(asked))(), c_size_t()
+        for entry, (session, command) in zip(entries, asked):
+            entry.session, entry.command = session, command
+        status = Status(self.status_of("calls", entries, c_size_t(len(entries)), ctypes.byref(made)))
+        if status == Status.IS_CLOSED:
+            raise Fault("calls", status)
+        return entries[:made.value], status
+
     def call_at(self, place, session, command):
         """The same, if the store has made `place` entries so far; else a fault, with the status MOVED."""
         numbers = c_uint64(within("place", place)), c_uint8(within("session", session))
@@ -546,7 +571,7 @@ class Book:
 
     def show(self, view):
         """A table of the book, as `lrcman show` prints it."""
-        return self.text("show", c_uint8(within("view", view)))
+        return self.text("show", c_uint8(within("view", view)), room=TABLE_ROOM)
 
     def forecast_table(self, outage, nodes):
         """The table of a forecast, as `lrcman may-stop` or `may-lose` prints it, and whether no stripe is harmed."""

@@ -11,6 +11,9 @@ state. Then the commands are counted: each kind has to have been done and refuse
 either code has to have occurred, each refusal of a fragment that the code of its stripe lacks, and ticks that end no lease,
 one, and several.
 
+Then 120 groups of drawn calls are made, each group by one call, and one by one on another book and the model
+(tests/library/batches.py): entries, replies, states and images are the same, also where a call in a group can't be made.
+
 Then books and models begin in images:
 - images that are written by hand (tests/model/causes.py), with the line and the cause that each is refused for, by the model too;
 - a store that runs on for 30,000 calls (tests/library/restarts.py): each thousandth time an image is kept and the log cut, and the
@@ -30,7 +33,7 @@ from collections import Counter
 from itertools import islice
 
 from tests import harness
-from tests.library import changes, restarts
+from tests.library import batches, changes, restarts
 from tests.library.comparing import STRIPES, Differs, begun_in_book, begun_in_model, compare, expect, make
 from tests.library.library import lrc_embed
 from tests.model import causes, draws, rules
@@ -302,6 +305,7 @@ def test_images(count, shared, is_long):
     test_model(count, 4, 2000)
     causes.test(count, "the model", begin_model)
     causes.test(count, "the library", lambda *given: begin_book(shared, *given))
+    batches.test(count, shared)
     restarts.test(count, shared, is_long)
     changes.test(count, shared, is_long)
 

@@ -1058,6 +1058,7 @@ static void forgets(void) {
 }
 
 #include "embed_texts.h"
+#include "embed_batches.h"
 
 static uint32_t open_image(const char *nodes, const char *text, size_t *detail, uint32_t *cause) {
     uint32_t status;
@@ -1284,6 +1285,7 @@ static void fill(void) {
     reply.kind = 99;
     WANT(lrc_embed_call(&handle, 1, &command, &reply) == LRC_FULL && reply.kind == 99);
     WANT(lrc_embed_peek(&handle, 1, &command, &reply) == LRC_FULL && reply.kind == 99);
+    WANT(lrc_embed_calls(&handle, &entry, 1, &position) == LRC_FULL && position == 0 && entry.reply.kind == 0);
     WANT(count_of() == LRC_HISTORY_LIMIT);
     const lrc_command tick = {.kind = LRC_TICK};
     uint32_t clock = 99;
@@ -1293,8 +1295,10 @@ static void fill(void) {
     uint64_t forgotten = 99;
     WANT(lrc_embed_forget(&handle) == LRC_DONE && count_of() == 0);
     WANT(lrc_embed_before(&handle, &forgotten) == LRC_DONE && forgotten == LRC_HISTORY_LIMIT);
-    for (size_t i = 0; i < LRC_HISTORY_LIMIT; i++)
+    for (size_t i = 0; i < LRC_HISTORY_LIMIT - 2; i++)
         WANT(lrc_embed_call(&handle, 1, &command, &reply) == LRC_DONE);
+    lrc_entry last[3] = {entry, entry, entry}; // (the third has no room)
+    make_some(last, 3, 2, LRC_FULL);
     WANT(lrc_embed_call(&handle, 1, &command, &reply) == LRC_FULL && count_of() == LRC_HISTORY_LIMIT);
     WANT(lrc_embed_replay(&handle, &entry, 1, &position) == LRC_FULL && position == 0);
     WANT(lrc_embed_count(&handle, &position) == LRC_IS_CLOSED);
@@ -1316,6 +1320,7 @@ int main(int argc, char **argv) {
     texts();
     closed();
     texts_of_closed();
+    batches_of_closed();
     open_twenty();
     WANT(lrc_embed_open(&handle, (const uint8_t *)"", 0, &(size_t){0}) == LRC_IS_OPEN);
     ranges();
@@ -1332,6 +1337,7 @@ int main(int argc, char **argv) {
     names();
     more_names();
     lines();
+    forms();
     recipes();
     code_stripes(LRC_WIDE, 12);
     code_stripes(LRC_NARROW, 6);
@@ -1340,6 +1346,7 @@ int main(int argc, char **argv) {
     replays();
     forgets();
     texts_of_book();
+    batches();
     begins();
     if (is_full || strcmp(word, "images") == 0) { // once, and not for each request that is refused
         refused_images();

@@ -42,7 +42,7 @@ EMBED, INCLUDE = f"{EXAMPLES}/embed", f"{TOP}/crates/lrc_embed/include"
 CXX = os.environ.get("CXX", "c++")
 STRICT = ["-Wall", "-Wextra", "-Werror"]
 # The version of the header, and a sum of what it declares.
-INTERFACE = "5", "cf5c12b75e3a"
+INTERFACE = "6", "1dd513033a32"
 COUNTED = ["-Wl,--wrap=malloc,--wrap=realloc,--wrap=free"]
 
 
@@ -204,7 +204,8 @@ def names_in(declaration):
 NAMED_ANEW = {"safe": "is_safe", "needed": "length"}
 
 # What the names of an enum of the header begin with, where it is not LRC_ alone.
-BEGINNINGS = {"lrc_cause": "LRC_CAUSE_", "lrc_line_cause": "LRC_LINE_", "lrc_view": "LRC_SHOW_"}
+BEGINNINGS = {"lrc_cause": "LRC_CAUSE_", "lrc_line_cause": "LRC_LINE_", "lrc_view": "LRC_SHOW_",
+              "lrc_field": "LRC_FIELD_"}
 
 
 def numbered(text, pattern, beginning="LRC_"):
@@ -221,7 +222,7 @@ def constants_of(texts):
         # (`done` is a status of the header too)
         "lrc_command_kind": {f"LRC_{'REPORT' if name == 'Done' else snake(name).upper()}": int(number)
                              for number, name in re.findall(r"(\d+) => Some\(Command::(\w+)", kinds)},
-        "lrc_reply_kind": numbered(replies, r"Reply::(\w+)(?:\([^)]*\)| \{[^}]*\})? => .*?self\.kind = (\d+)"),
+        "lrc_reply_kind": numbered(replies, r"ReplyRef::(\w+)(?:\([^)]*\)| \{[^}]*\})? => .*?self\.kind = (\d+)"),
         "lrc_repair": numbered(texts["lrc_records/repair.rt"], r"Kind::(\w+)(?:\(\w+\))? => \((\d+),"),
         "lrc_refusal": numbered(reply, r"Refusal::(\w+)(?:\(\w+\))? => \((\d+),"),
         "lrc_level_kind": numbered(texts["lrc_records/level.rt"], r"Level::(\w+)(?:\(\w+\))? => \((\d+),"),
@@ -230,6 +231,7 @@ def constants_of(texts):
         "lrc_outage": {f"LRC_{name.upper()}": int(number)
                        for number, name in re.findall(r"(\d+) => Some\(Outage::(\w+)\)", texts["lrc_walks/outages.rt"])},
         "lrc_cause": numbered(read(f"{TOP}/crates/lrc_images/src/cause.rt"), r"^    (\w+) = (\d+),$", BEGINNINGS["lrc_cause"]),
+        "lrc_field": numbered(texts["lrc_records/names.rt"], r"^const (\w+): u8 = (\d+);", BEGINNINGS["lrc_field"]),
         "lrc_line_cause": numbered(read(f"{TOP}/crates/lrc_script/src/script.rt"), r"^    (\w+) = (\d+),$",
                                    BEGINNINGS["lrc_line_cause"]),
         "lrc_view": {f"LRC_SHOW_{'_'.join(filter(None, names)).upper()}": int(number) for number, *names in

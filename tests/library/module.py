@@ -12,7 +12,7 @@ from tests.library.library import command_of
 # (which tests/library/library.py has loaded)
 import lrc_embed
 from lrc_embed import (RULES_VERSION, VERSION, Book, Cause, Code, Command, CommandKind, Entry, Fault, ModeKind, OtherVersion,
-                       NAMES, Outage, Status, View, encode, matrix, recipe_of, rules_version, words_of)
+                       NAMES, Outage, Status, View, encode, fields_of, matrix, recipe_of, rules_version, words_of)
 
 TWENTY = topology_of(nodes_in_order(20, 4))
 SCRIPT = ("place 1", "place 2", "fail 3", "next", "lease 2 7", "done 1 3 1", "next", "upgrade 0", "upgraded 0")
@@ -46,8 +46,9 @@ def ways_of(book):
     return {
         "session": [lambda n: book.call(n, Command(CommandKind.NEXT)), lambda n: Entry(session=n),
                     lambda n: setattr(entry, "session", n), lambda n: book.peek(n, Command(CommandKind.NEXT)),
-                    lambda n: book.peek_entry(n, Command(CommandKind.NEXT))],
-        "kind": [Command, lambda n: setattr(command, "kind", n)],
+                    lambda n: book.peek_entry(n, Command(CommandKind.NEXT)),
+                    lambda n: book.calls([(n, Command(CommandKind.NEXT))])],
+        "kind": [Command, lambda n: setattr(command, "kind", n), lambda n: fields_of(book.library, n)],
         "stripe": [*made_of(CommandKind.PLACE, "stripe"), book.homes, book.level, book.missing, book.code,
                    lambda n: book.lease(n, 0), lambda n: book.repair(n, 0), lambda n: book.recipe(n, 0)],
         "fragment": [*made_of(CommandKind.LEASE, "fragment"), lambda n: book.lease(0, n), lambda n: book.repair(0, n),
@@ -101,7 +102,7 @@ def test_numbers(count, library):
         modes = [book.mode(node).mode for node in range(20)]
         count.check("the module: a number out of its range is nobody's", modes == [ModeKind.ACTIVE] * 20)
         called = [book.entry(index).session for index in range(book.count())]
-        count.check(f"the module: the sessions that called: {called}", called == [1, 8])
+        count.check(f"the module: the sessions that called: {called}", called == [1, 8, 1, 8])
 
 
 def test_forgotten(count, library):
@@ -291,6 +292,24 @@ def test_faults(count, library):
         count.check(f"the module: a book that is not opened: {found}, and not {right}", found == right)
 
 
+def test_calls(count, library):
+    """Calls in a group, of which one can't be made: the entries before it are returned, and why it is not made."""
+    commands = [command_of(line) for line in SCRIPT]
+    with Book(library, TWENTY) as book:
+        entries, status = book.calls([(1 + at % 8, command) for at, command in enumerate(commands)])
+        found = b"".join(map(bytes, entries))
+        count.check(f"the module: calls in a group: {status}", status == Status.DONE and found == log_of(library))
+        unset = Command(CommandKind.TICK)
+        ctypes.memset(ctypes.addressof(unset), 0, 1)  # (no command has kind 0)
+        entries, status = book.calls([(2, commands[0]), (2, commands[3]), (2, unset), (2, commands[0])])
+        made = [str(entry.reply) for entry in entries]
+        count.check(f"the module: a group that stops: {status}, {made}",
+                    status == Status.OUT_OF_RANGE and made == ["refused 102", "idle"] and book.count() == len(SCRIPT) + 2)
+        count.check("the module: a group of none", book.calls([]) == ([], Status.DONE))
+        book.close()
+        count.check("the module: calls of a closed book", status_of(lambda: book.calls([]))[0] == Status.IS_CLOSED)
+
+
 class Counted:
     """A library whose calls are counted."""
 
@@ -303,17 +322,18 @@ class Counted:
 
 
 def test_image(count, library):
-    """An image is made once, and a second time where it needs more room than is usual."""
-    with Book(library, TWENTY, log_of(library)) as book:
-        text = book.image()
-    for room, wanted in ((lrc_embed.IMAGE_ROOM, 1), (len(text), 1), (len(text) - 1, 2), (1, 2)):
-        counted, usual = Counted(library), lrc_embed.IMAGE_ROOM
-        lrc_embed.IMAGE_ROOM = room
-        with Book(counted, TWENTY, log_of(library)) as book:
-            found = book.image()
-        lrc_embed.IMAGE_ROOM = usual
-        made = counted.calls["lrc_embed_image"]
-        count.check(f"the module: an image with room for {room} of {len(text)} bytes is made {made} times", found == text and made == wanted)
+    """An image is made once, and a second time where it needs more room than is usual; and so is a table."""
+    for call, usual, write in (("image", "IMAGE_ROOM", Book.image), ("show", "TABLE_ROOM", lambda book: book.show(View.STRIPES))):
+        with Book(library, TWENTY, log_of(library)) as book:
+            text = write(book)
+        for room, wanted in ((getattr(lrc_embed, usual), 1), (len(text), 1), (len(text) - 1, 2), (1, 2)):
+            counted, kept = Counted(library), getattr(lrc_embed, usual)
+            setattr(lrc_embed, usual, room)
+            with Book(counted, TWENTY, log_of(library)) as book:
+                found = write(book)
+            setattr(lrc_embed, usual, kept)
+            made = counted.calls[f"lrc_embed_{call}"]
+            count.check(f"the module: {call} with room for {room} of {len(text)} bytes is made {made} times", found == text and made == wanted)
 
 
 def test(count, library):
@@ -324,4 +344,5 @@ def test(count, library):
     test_numbers(count, library)
     test_dropped(count, library)
     test_pieces(count, library)
+    test_calls(count, library)
     test_saved(count, library)

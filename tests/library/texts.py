@@ -88,6 +88,19 @@ def test_lines(count, shared, lines=20_000):
         count.check(f"texts: the word of kind {kind}: {line}", ("REPORT" if word == "done" else word.upper()) == Kind(kind).name)
 
 
+def test_forms(count, shared):
+    """The word of each kind of command, and its numbers in the order of its line; no other kind has any."""
+    for kind in range(256):
+        word = lrc_embed.words_of(shared, "command_name", kind)
+        if not 1 <= kind <= len(Kind):
+            count.check(f"texts: the word of kind {kind}: {word}", word is None)
+            continue
+        count.check(f"texts: the word of kind {kind}: {word}", word in WORDS and library.command_of(
+            " ".join([word, *("0" for _ in fields_of(word))])).kind == kind)
+        fields = [field.name.lower() for field in lrc_embed.fields_of(shared, kind)]
+        count.check(f"texts: the fields of {word}: {fields}", fields == fields_of(word))
+
+
 def words_by_cause():
     """The words of docs/FORMATS.md for each line of a refusal."""
     text = harness.read(f"{harness.TOP}/docs/FORMATS.md").decode()
@@ -113,6 +126,7 @@ def test_words(count, shared):
 
 def test(count, shared):
     test_lines(count, shared)
+    test_forms(count, shared)
     test_words(count, shared)
 
 

@@ -8,7 +8,7 @@
 // Every function but lrc_embed_version and lrc_embed_rules_version returns a status. It writes its results only if the
 // status is LRC_DONE. lrc_embed_open, lrc_embed_open_image and lrc_embed_replay also write where they stopped, and the
 // functions that return LRC_SHORT write how much room they need, and those of a forecast `is_safe` then too, as their comments
-// say. lrc_embed_read_command writes the cause of a bad line. Nothing else is written.
+// say. lrc_embed_calls writes which calls it made, and lrc_embed_read_command the cause of a bad line. Nothing else is written.
 //
 // What the caller owes, since nothing checks C:
 // - The library is that of this header. Compare lrc_embed_version() with LRC_EMBED_VERSION before any other call.
@@ -39,7 +39,7 @@ extern "C" {
 // The version of the interface, which rises with every change of what this header declares: with each function, struct, field
 // and number that is new or means something else. lrc_embed_version() returns that of the library. Compare them at the start,
 // and go on only if they are the same. An lrc_entry has one layout in all versions, so that saved ones stay readable.
-#define LRC_EMBED_VERSION 5
+#define LRC_EMBED_VERSION 6
 
 // The version of the rules: of what each command returns and changes. lrc_embed_rules_version() returns that of the library.
 // A log replays alike in all libraries of one version of the rules. In those of another one a reply may differ, and an image
@@ -61,6 +61,8 @@ extern "C" {
 #define LRC_SLOTS 256
 // The most entries of a history.
 #define LRC_HISTORY_LIMIT 1000000
+// The bytes of the longest image, with each line at its longest, and as many as there can be. No image has more.
+#define LRC_IMAGE_MOST 3855418
 
 enum lrc_status {
     LRC_DONE = 0,
@@ -156,6 +158,15 @@ enum lrc_command_kind {
     LRC_UPGRADED = 16, // domain: its nodes can be reached again, except those that are down
     LRC_TICK = 17,     // nothing: advance the clock by one, and end each lease for which this is the third tick
     LRC_PLACE6 = 18,   // stripe: give each fragment of a new narrow stripe a home
+};
+
+// The numbers that commands have.
+enum lrc_field {
+    LRC_FIELD_STRIPE = 1,
+    LRC_FIELD_FRAGMENT = 2,
+    LRC_FIELD_EPOCH = 3,
+    LRC_FIELD_NODE = 4,
+    LRC_FIELD_DOMAIN = 5,
 };
 
 typedef struct {
@@ -526,6 +537,12 @@ uint32_t lrc_embed_call(lrc_handle *handle, uint8_t session, const lrc_command *
 // The same, with the whole entry as its result, as lrc_embed_entry would return it.
 uint32_t lrc_embed_call_entry(lrc_handle *handle, uint8_t session, const lrc_command *command, lrc_entry *entry);
 
+// Makes `count` calls, one after the other, as lrc_embed_call_entry makes each. Of an entry it reads the session and the command,
+// and it writes the entry of the call there. DONE, if all are made; IS_CLOSED; or OUT_OF_RANGE, FULL or OUT_OF_MEMORY, as of the
+// first call that can't be made. The calls before that one are made and stay, `made` is their number, and the entries from there
+// on are as they were. So a store saves the first `made` entries, with each status but IS_CLOSED, which writes nothing.
+uint32_t lrc_embed_calls(lrc_handle *handle, lrc_entry *entries, size_t count, size_t *made);
+
 // The same, if the store has made `place` entries so far: if lrc_embed_before plus lrc_embed_count is `place`, so that the
 // entry becomes number `place` + 1 of the store. Else MOVED, and nothing changes. So a caller that decided by what it read at
 // `place` makes the call only if nothing came between. Otherwise as lrc_embed_call. The place counts entries, and to open
@@ -660,6 +677,11 @@ uint32_t lrc_embed_level_name(uint8_t kind, uint8_t *text, size_t room, size_t *
 uint32_t lrc_embed_mode_name(uint8_t kind, uint8_t *text, size_t room, size_t *length);
 uint32_t lrc_embed_code_name(uint8_t code, uint8_t *text, size_t room, size_t *length);
 uint32_t lrc_embed_repair_name(uint8_t repair, uint8_t *text, size_t room, size_t *length);
+// The word with which the line of a kind of command begins, in the same way: at most 8 letters and digits.
+uint32_t lrc_embed_command_name(uint8_t kind, uint8_t *text, size_t room, size_t *length);
+// The numbers that commands of a kind have, in the order in which they stand behind that word: each an lrc_field, at most 3. DONE,
+// with `*count` of them; UNKNOWN if there is no such kind; or SHORT if there is room for less, and then only `count` is written.
+uint32_t lrc_embed_command_fields(uint8_t kind, uint8_t *fields, size_t room, size_t *count);
 // The words of lrcman for a refusal, in the same way, at most 80 bytes: for an lrc_line_cause; for an lrc_cause; and for a status
 // from SYNTAX to TOO_MANY.
 uint32_t lrc_embed_line_words(uint32_t cause, uint8_t *text, size_t room, size_t *length);

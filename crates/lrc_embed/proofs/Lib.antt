@@ -1,4 +1,6 @@
+pub mod BatchLemmas
 pub mod CodedLemmas
+pub mod FormLemmas
 pub mod LookLemmas
 pub mod OfLemmas
 pub mod RecipeLemmas

@@ -23,9 +23,11 @@ pub mod Handles
 pub mod Statuses
 pub mod Calls
 pub mod Entries
+pub mod Batches
 pub mod Walks
 pub mod Names
 pub mod Printed
+pub mod Forms
 pub mod Replays
 pub mod Recipes
 pub mod Coded

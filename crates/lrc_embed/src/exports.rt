@@ -1,8 +1,9 @@
 //! The functions that C calls. Each returns a status, and writes its result only if that is `DONE`. With another status
-//! `lrc_embed_open`, `lrc_embed_open_image` and `lrc_embed_replay` may write where a text or an entry was refused, and
-//! `lrc_embed_read_command` why a line was. With `SHORT` the room that is needed is written, and the forecasts write
-//! `safe` too.
+//! `lrc_embed_open`, `lrc_embed_open_image` and `lrc_embed_replay` may write where a text or an entry was refused,
+//! `lrc_embed_calls` which calls it made, and `lrc_embed_read_command` why a line was refused. With `SHORT` the room that
+//! is needed is written, and the forecasts write `safe` too.
 
+mod batch;
 mod call;
 mod coding;
 mod entries;

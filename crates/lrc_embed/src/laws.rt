@@ -9,6 +9,8 @@ ghost use Rattle.lrc_field.specs.Stripes.{Bytes, IsStripe};
 ghost use Rattle.lrc_coder.specs.Buffers.{bytes_at, each_of};
 ghost use Rattle.lrc_coder.specs.Coding.{IsRebuilt};
 ghost use Rattle.lrc_records.specs.Recipes.{IsRecipeOf};
+ghost use Rattle.lrc_rules.specs.declared.command.Command.{Command};
+ghost use Rattle.lrc_embed.specs.Forms.{HasFields};
 ghost use Rattle.lrc_records.specs.declared.recipe.LrcRecipe.{LrcRecipe as AnyRecipe};
 
 /// What is rebuilt by the recipe of a fragment is that fragment, missing or not: where the bytes that are read are a
@@ -19,4 +21,9 @@ pub fn recipes_rebuild_their_fragment()
         IsRecipeOf code missing f r → IsRebuilt code r.coefficients fragments before after → IsStripe code v →
         ((g : ℕ) → IsTrue (read_by (each_of r.coefficients) g) → bytes_at fragments i g ≡ v g) → i < length before →
         get_or after i 0 ≡ v f.value }
+{}
+
+/// The word and the fields of a kind of command are those of its lines in scripts, as they are read and written.
+pub fn commands_have_fields()
+    ensures { (command : Command) → HasFields command }
 {}

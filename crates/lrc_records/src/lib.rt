@@ -28,7 +28,7 @@ pub use home::{LrcHome, LrcHomes};
 pub use lease::LrcLease;
 pub use level::LrcLevel;
 pub use mode::{LrcMode, flag};
-pub use names::{refusal_name, reply_name, status_name};
+pub use names::{command_fields, command_name, refusal_name, reply_name, status_name};
 pub use node::LrcNode;
 pub use outlook::LrcOutlook;
 pub use recipe::LrcRecipe;

@@ -1,7 +1,18 @@
-//! The words for the numbers of statuses, replies and refusals.
+//! The words for the numbers of statuses, commands, replies and refusals, and the fields of commands.
 
 ghost use Rattle.std.specs.Prelude.{◌≡◌, option_map};
-ghost use Rattle.lrc_records.specs.Words.{status_name, reply_name, refusal_name};
+ghost use Rattle.lrc_records.specs.Words.{status_name, reply_name, refusal_name, command_name, command_fields};
+
+// The numbers of the fields of commands.
+const STRIPE: u8 = 1;
+
+const FRAGMENT: u8 = 2;
+
+const EPOCH: u8 = 3;
+
+const NODE: u8 = 4;
+
+const DOMAIN: u8 = 5;
 
 /// The word for a status of the library; `None` if no status has this number.
 pub fn status_name(status: u32) -> Option<&'static str>
@@ -74,6 +85,61 @@ pub fn refusal_name(refusal: u8) -> Option<&'static str>
         115 => Some("target offline"),
         116 => Some("no lease"),
         117 => Some("not empty"),
+        _ => None,
+    }
+}
+
+/// The word for a kind of command, with which its line begins; `None` if no kind has this number.
+pub fn command_name(kind: u8) -> Option<&'static str>
+    ensures { option_map (λ word. word.now) result ≡ command_name kind }
+{
+    match kind {
+        1 => Some("place"),
+        2 => Some("drop"),
+        3 => Some("lease"),
+        4 => Some("next"),
+        5 => Some("done"),
+        6 => Some("abandon"),
+        7 => Some("revoke"),
+        8 => Some("fail"),
+        9 => Some("down"),
+        10 => Some("up"),
+        11 => Some("drain"),
+        12 => Some("undrain"),
+        13 => Some("retire"),
+        14 => Some("join"),
+        15 => Some("upgrade"),
+        16 => Some("upgraded"),
+        17 => Some("tick"),
+        18 => Some("place6"),
+        _ => None,
+    }
+}
+
+/// The fields that commands of a kind use, in the order of their lines: 1 is the stripe, 2 the fragment, 3 the epoch, 4 the
+/// node, and 5 the upgrade domain. `None` if no kind has this number.
+pub fn command_fields(kind: u8) -> Option<&'static [u8]>
+    ensures { option_map (λ fields. fields.now) result ≡ command_fields kind }
+{
+    match kind {
+        1 => Some(&[STRIPE]),
+        2 => Some(&[STRIPE]),
+        3 => Some(&[STRIPE, FRAGMENT]),
+        4 => Some(&[]),
+        5 => Some(&[STRIPE, FRAGMENT, EPOCH]),
+        6 => Some(&[STRIPE, FRAGMENT, EPOCH]),
+        7 => Some(&[STRIPE, FRAGMENT]),
+        8 => Some(&[NODE]),
+        9 => Some(&[NODE]),
+        10 => Some(&[NODE]),
+        11 => Some(&[NODE]),
+        12 => Some(&[NODE]),
+        13 => Some(&[NODE]),
+        14 => Some(&[NODE]),
+        15 => Some(&[DOMAIN]),
+        16 => Some(&[DOMAIN]),
+        17 => Some(&[]),
+        18 => Some(&[STRIPE]),
         _ => None,
     }
 }

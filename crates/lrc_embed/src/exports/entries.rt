@@ -82,7 +82,12 @@ pub extern "C" fn lrc_embed_peek_entry(
 }
 
 /// Makes one step, and writes its entry.
-fn step_entry(book: &mut Book, session: SessionNo, command: Command, entry: &mut LrcEntry) -> u32
+pub(super) fn step_entry(
+    book: &mut Book,
+    session: SessionNo,
+    command: Command,
+    entry: &mut LrcEntry,
+) -> u32
     ensures done { (result ≡ DONE) → IsStepOf book.old session command entry.new.reply book.new }
     ensures head { (result ≡ DONE) → HasCall session command entry.new }
     ensures unchanged { (result ≢ DONE) → contents (Some book.new) ≡ contents (Some book.old) }

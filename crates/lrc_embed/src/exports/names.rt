@@ -1,7 +1,7 @@
-//! The words for numbers.
+//! The words for numbers, and the fields of commands.
 
 ghost use Rattle.std.specs.Prelude.{◌≡◌, option_map};
-ghost use Rattle.lrc_records.specs.Words.{status_name, reply_name, refusal_name};
+ghost use Rattle.lrc_records.specs.Words.{status_name, command_name, command_fields, reply_name, refusal_name};
 ghost use Rattle.lrc_embed.specs.Names.{IsName};
 ghost use Rattle.lrc_embed.specs.Printed.{level_name, mode_name, word_of_code, repair_name};
 
@@ -9,7 +9,7 @@ use crate::exports::image::put_text;
 use crate::status::UNKNOWN;
 use lrc_book::{Level, Mode};
 use lrc_code::Code;
-use lrc_records::{refusal_name, reply_name, status_name};
+use lrc_records::{command_fields, command_name, refusal_name, reply_name, status_name};
 use lrc_text::{level_word, mode_word};
 
 /// The word for a status. It fills the first `length` bytes. If there is less room, nothing is written but the
@@ -71,6 +71,23 @@ pub extern "C" fn lrc_embed_repair_name(repair: u8, text: &mut [u8], length: &mu
     put_name(repair_name(repair), text, length)
 }
 
+/// The word for a kind of command, with which its line begins. It is written as `lrc_embed_status_name` says.
+#[unsafe(no_mangle)]
+pub extern "C" fn lrc_embed_command_name(kind: u8, text: &mut [u8], length: &mut usize) -> u32
+    ensures { IsName (command_name kind) result text.old text.new length.old length.new }
+{
+    put_name(command_name(kind), text, length)
+}
+
+/// The fields that commands of a kind use, in the order of their lines: 1 is the stripe, 2 the fragment, 3 the epoch, 4
+/// the node, and 5 the upgrade domain. They are written as `lrc_embed_status_name` says of a word.
+#[unsafe(no_mangle)]
+pub extern "C" fn lrc_embed_command_fields(kind: u8, fields: &mut [u8], count: &mut usize) -> u32
+    ensures { IsName (command_fields kind) result fields.old fields.new count.old count.new }
+{
+    put_bytes(command_fields(kind), fields, count)
+}
+
 fn level_name(kind: u8) -> Option<&'static str>
     ensures { option_map (λ word. word.now) result ≡ level_name kind }
 {
@@ -122,6 +139,16 @@ pub(super) fn put_name(name: Option<&'static str>, text: &mut [u8], length: &mut
 {
     match name {
         Some(name) => put_text(name.as_bytes(), text, length),
+        None => UNKNOWN,
+    }
+}
+
+/// The same of bytes.
+fn put_bytes(bytes: Option<&'static [u8]>, buffer: &mut [u8], length: &mut usize) -> u32
+    ensures { IsName (option_map (λ bytes. bytes.now) bytes.entry) result buffer.old buffer.new length.old length.new }
+{
+    match bytes {
+        Some(bytes) => put_text(bytes, buffer, length),
         None => UNKNOWN,
     }
 }

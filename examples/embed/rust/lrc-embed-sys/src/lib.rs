@@ -13,7 +13,7 @@ pub const LRC_CLOSED: lrc_handle = lrc_handle { is_open: false, at: core::ptr::n
 /// The version of the interface, which rises with every change of what this header declares: with each function, struct, field and
 /// number that is new or means something else. lrc_embed_version() returns that of the library. Compare them at the start, and go
 /// on only if they are the same. An lrc_entry has one layout in all versions, so that saved ones stay readable.
-pub const LRC_EMBED_VERSION: u32 = 5;
+pub const LRC_EMBED_VERSION: u32 = 6;
 
 /// The version of the rules: of what each command returns and changes. lrc_embed_rules_version() returns that of the library. A
 /// log replays alike in all libraries of one version of the rules. In those of another one a reply may differ, and an image may be
@@ -41,6 +41,9 @@ pub const LRC_SLOTS: usize = 256;
 
 /// The most entries of a history.
 pub const LRC_HISTORY_LIMIT: usize = 1000000;
+
+/// The bytes of the longest image, with each line at its longest, and as many as there can be. No image has more.
+pub const LRC_IMAGE_MOST: usize = 3855418;
 
 // lrc_status
 pub const LRC_DONE: u32 = 0;
@@ -173,6 +176,13 @@ pub const LRC_UPGRADED: u8 = 16;
 pub const LRC_TICK: u8 = 17;
 /// stripe: give each fragment of a new narrow stripe a home
 pub const LRC_PLACE6: u8 = 18;
+
+// lrc_field: The numbers that commands have.
+pub const LRC_FIELD_STRIPE: u8 = 1;
+pub const LRC_FIELD_FRAGMENT: u8 = 2;
+pub const LRC_FIELD_EPOCH: u8 = 3;
+pub const LRC_FIELD_NODE: u8 = 4;
+pub const LRC_FIELD_DOMAIN: u8 = 5;
 
 // lrc_reply_kind
 /// seats: the homes of fragments 0 to 15 of a wide stripe
@@ -642,6 +652,12 @@ extern "C" {
     pub fn lrc_embed_call(handle: *mut lrc_handle, session: u8, command: *const lrc_command, reply: *mut lrc_reply) -> u32;
     /// The same, with the whole entry as its result, as lrc_embed_entry would return it.
     pub fn lrc_embed_call_entry(handle: *mut lrc_handle, session: u8, command: *const lrc_command, entry: *mut lrc_entry) -> u32;
+    /// Makes `count` calls, one after the other, as lrc_embed_call_entry makes each. Of an entry it reads the session and the
+    /// command, and it writes the entry of the call there. DONE, if all are made; IS_CLOSED; or OUT_OF_RANGE, FULL or
+    /// OUT_OF_MEMORY, as of the first call that can't be made. The calls before that one are made and stay, `made` is their
+    /// number, and the entries from there on are as they were. So a store saves the first `made` entries, with each status but
+    /// IS_CLOSED, which writes nothing.
+    pub fn lrc_embed_calls(handle: *mut lrc_handle, entries: *mut lrc_entry, count: usize, made: *mut usize) -> u32;
     /// The same, if the store has made `place` entries so far: if lrc_embed_before plus lrc_embed_count is `place`, so that the
     /// entry becomes number `place` + 1 of the store. Else MOVED, and nothing changes. So a caller that decided by what it read at
     /// `place` makes the call only if nothing came between. Otherwise as lrc_embed_call. The place counts entries, and to open a
@@ -823,6 +839,12 @@ extern "C" {
     /// ASCII letters and spaces, at most 24, with no zero at the end. DONE, with `*length` bytes; UNKNOWN if the number has none;
     /// or SHORT if there is room for less, and then only `length` is written.
     pub fn lrc_embed_repair_name(repair: u8, text: *mut u8, room: usize, length: *mut usize) -> u32;
+    /// The word with which the line of a kind of command begins, in the same way: at most 8 letters and digits.
+    pub fn lrc_embed_command_name(kind: u8, text: *mut u8, room: usize, length: *mut usize) -> u32;
+    /// The numbers that commands of a kind have, in the order in which they stand behind that word: each an lrc_field, at most 3.
+    /// DONE, with `*count` of them; UNKNOWN if there is no such kind; or SHORT if there is room for less, and then only `count` is
+    /// written.
+    pub fn lrc_embed_command_fields(kind: u8, fields: *mut u8, room: usize, count: *mut usize) -> u32;
     /// The words of lrcman for a refusal, in the same way, at most 80 bytes: for an lrc_line_cause; for an lrc_cause; and for a
     /// status from SYNTAX to TOO_MANY.
     pub fn lrc_embed_line_words(cause: u32, text: *mut u8, room: usize, length: *mut usize) -> u32;

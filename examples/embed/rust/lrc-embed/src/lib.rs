@@ -158,7 +158,15 @@ impl Book {
         done(unsafe { sys::lrc_embed_call(self.handle.get(), session, &command.into(), &mut reply) }).map(|()| reply)
     }
 
-    /// The same, if the store has made as many entries as this so far.
+    /// Makes the calls of the sessions and commands of these entries, one after the other, and writes each entry there. Returns how
+    /// many are made, and why the next one is not, if one is left: those before it stay.
+    pub fn calls(&mut self, entries: &mut [Entry]) -> (usize, Result<(), Fault>) {
+        let mut made = 0;
+        let status = unsafe { sys::lrc_embed_calls(self.handle.get(), entries.as_mut_ptr(), entries.len(), &mut made) };
+        (made, found_at(status, made, 0))
+    }
+
+    /// A call, if the store has made as many entries as this so far.
     pub fn call_at(&mut self, place: u64, session: u8, command: Command) -> Result<Reply, Fault> {
         let mut reply = Reply::default();
         done(unsafe { sys::lrc_embed_call_at(self.handle.get(), place, session, &command.into(), &mut reply) }).map(|()| reply)

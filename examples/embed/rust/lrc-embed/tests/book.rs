@@ -1,6 +1,6 @@
 //! Each call of a book, with what docs/RULES.md and the examples say of it. Nodes 0 to 19 have four slots each, a fault domain of
 //! their own, and upgrade domains 0 to 9 in turn, as in `examples/place_one_stripe.bundle`.
-use lrc_embed::{matrix, recipe_of, rules_version, sys, Book, Command, Fault, Outage};
+use lrc_embed::{matrix, recipe_of, rules_version, sys, Book, Command, Entry, Fault, Outage};
 
 fn nodes() -> String {
     let node = |number: u16| format!("[[node]]\nnumber = {number}\nfault = {number}\nupgrade = {}\nslots = 4\n", number % 10);
@@ -93,6 +93,20 @@ fn calls() {
     assert_eq!((entry.session, entry.command.kind, entry.reply), (2, sys::LRC_NEXT, granted));
     let refused = book.call(1, Command::Report { stripe: 1, fragment: 3, epoch: 1 }).unwrap();
     assert_eq!((refused.kind, refused.refusal, refused.detail), (sys::LRC_REFUSED, sys::LRC_NOT_HOLDER, 2));
+}
+
+#[test]
+fn calls_in_a_group() {
+    let mut book = book(&FAILED);
+    let of = |session, command: Command| Entry { session, command: command.into(), ..Entry::default() };
+    let report = Command::Report { stripe: 1, fragment: 3, epoch: 1 };
+    let mut entries = [of(2, Command::Next), of(2, report), of(9, Command::Tick), of(1, Command::Tick)];
+    let (made, result) = book.calls(&mut entries);
+    assert_eq!((made, fault(result)), (2, (sys::LRC_OUT_OF_RANGE, 2, 0)));
+    assert_eq!(entries.map(|it| it.reply.kind), [sys::LRC_GRANTED, sys::LRC_ENDED, 0, 0]);
+    assert_eq!(entries[..2], [book.entry(2).unwrap().unwrap(), book.entry(3).unwrap().unwrap()]);
+    assert_eq!((book.calls(&mut entries[3..]), book.calls(&mut [])), ((1, Ok(())), (0, Ok(()))));
+    assert_eq!((entries[3].reply.clock, book.count().unwrap()), (1, 5));
 }
 
 #[test]
