@@ -6,11 +6,21 @@ from tests import harness
 from tests.harness import TOP, Node
 from tests.library.library import command_of
 # (which tests/library/library.py has loaded)
-from lrc_embed import Book, Cause, Command, CommandKind, Fault, ModeKind, Status
+from lrc_embed import FRAGMENTS, IMAGE_MOST, NODES, STRIPES, Book, Cause, Command, CommandKind, Fault, ModeKind, Status
 
 TWENTY = harness.nodes_in_order(20, 4)
+HEADER = f"{TOP}/crates/lrc_embed/include/lrc_embed.h"
 STRIPE_1 = "stripe 1 0:0 1:0 2:0 3:0 4:0 5:0 6:0 7:0 8:0 9:0 10:0 11:0 16:0 12:0 13:0 14:0\n"
 IMAGE = f"image 1\nbefore 7\nclock 0\nnode 7 down\n{STRIPE_1}end\n"
+
+
+def most_of_image():
+    """The most bytes of an image, worked by docs/FORMATS.md: each line that there can be, at its longest. A wide stripe has the
+    longest line of its number; each fragment has a lease."""
+    head = "image 1\nbefore 9223372036854775808\nclock 4293967291\nupgrading 255\nend\n" + NODES * "node 65535 draining down\n"
+    stripe = "stripe {0}" + FRAGMENTS * " 65535:255" + "\ngranted {0}" + FRAGMENTS * " 4294967294" + "\n"
+    leases = "".join(f"lease {{0}} {fragment} 8 65535:255 4293967294\n" for fragment in range(FRAGMENTS))
+    return len(head) + sum(len((stripe + leases).format(number)) for number in range(STRIPES))
 
 
 def refusal(library, nodes, image):
@@ -89,7 +99,14 @@ def test_domains(count, library):
         count.check("images: a node that is renumbered", book.image() == image and book.load(107).value == 1)
 
 
+def test_most(count):
+    found = most_of_image()
+    count.check(f"images: the longest one has {found} bytes, and not {IMAGE_MOST}", found == IMAGE_MOST)
+    count.check("images: the header says so", f"#define LRC_IMAGE_MOST {found}\n" in harness.read(HEADER).decode())
+
+
 def test(count, library):
+    test_most(count)
     test_takeover(count, library)
     test_more(count, library)
     test_less(count, library)

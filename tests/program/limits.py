@@ -208,6 +208,15 @@ def begin_book(shared):
     return begin
 
 
+def test_longest(count):
+    """The image of the full store is not far below the most that the header says of any, but for its counts of grants, of one digit."""
+    text, most = full_store()[1], lrc_embed.IMAGE_MOST
+    short = sum(16 * len(" 4294967294") - len(" ".join(["", *line.split(" ")[2:]])) for line in text.split("\n")
+                if line.startswith("granted "))
+    count.check(f"the image of the full store has {len(text)} bytes, {short} fewer by its counts, and the most is {most}",
+                most * 4 // 5 < len(text) + short <= most)
+
+
 def test_images(count, who, begin):
     for name, nodes, text, right in images():
         found = begin(nodes, text)
@@ -476,6 +485,7 @@ def main(words):
     test_topologies(count, program)
     test_scripts(count, program)
     test_tables(count, program)
+    test_longest(count)
     test_images(count, "the program", begin_program(program))
     if words[1:]:
         shared = ctypes.CDLL(f"{words[1]}/liblrc_embed.so")
