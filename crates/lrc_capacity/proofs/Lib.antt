@@ -1,0 +1,4 @@
+pub mod TrialLemmas
+pub mod RoomLemmas
+pub mod PlacedLemmas
+pub mod CapacityLemmas
