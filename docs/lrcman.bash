@@ -4,7 +4,7 @@ _lrcman() {
     if [ "$COMP_CWORD" -eq 1 ]; then
         words="run check resume image show may-stop may-lose recover recover6 recipe recipe6 matrix matrix6"
     elif [ "$first" = show ] && [ "$COMP_CWORD" -eq 2 ]; then
-        words="status stripes nodes leases work fragments domains health"
+        words="status stripes nodes leases work fragments domains health capacity"
     elif [ "$first" = may-stop ] || [ "$first" = may-lose ] || [ "${COMP_WORDS[2]}" = domains ]; then
         words="fault upgrade"
     fi

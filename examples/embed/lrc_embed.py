@@ -67,7 +67,7 @@ class Outage(IntEnum):
 
 
 class View(IntEnum):
-    STATUS, STRIPES, NODES, LEASES, WORK, FRAGMENTS, DOMAINS_FAULT, DOMAINS_UPGRADE, HEALTH = range(1, 10)
+    STATUS, STRIPES, NODES, LEASES, WORK, FRAGMENTS, DOMAINS_FAULT, DOMAINS_UPGRADE, HEALTH, CAPACITY = range(1, 11)
 
 
 # The refusals that have a detail.

@@ -188,7 +188,7 @@ static void texts_of_book(void) {
     WANT(status == LRC_SHORT && is_safe == 0);
     is_safe = 99, length = 99;
     WANT(lrc_embed_show(&handle, 0, text, 2, &length) == LRC_OUT_OF_RANGE);
-    WANT(lrc_embed_show(&handle, LRC_SHOW_HEALTH + 1, text, 2, &length) == LRC_OUT_OF_RANGE);
+    WANT(lrc_embed_show(&handle, LRC_SHOW_CAPACITY + 1, text, 2, &length) == LRC_OUT_OF_RANGE);
     WANT(lrc_embed_show(&handle, 255, text, 2, &length) == LRC_OUT_OF_RANGE);
     WANT(lrc_embed_reply_line(&handle, 3, text, 2, &length) == LRC_UNKNOWN);
     WANT(lrc_embed_reply_line(&handle, SIZE_MAX, text, 2, &length) == LRC_UNKNOWN);

@@ -7,8 +7,9 @@ from tests.model.field import read_for
 from tests.model.rules import FRAGMENTS, is_recoverable, margin, members
 
 SERVED = ("status", "stripes", "nodes", "leases", "work")  # those that the service shows too
-VIEWS = (*SERVED, "fragments", "domains fault", "domains upgrade", "health")  # the words after `show`
+VIEWS = (*SERVED, "fragments", "domains fault", "domains upgrade", "health", "capacity")  # the words after `show`
 LEVELS = ("whole", "at_risk_margin_2", "at_risk_margin_1", "at_risk_margin_0", "unavailable", "lost")
+STRIPES = 4_096  # the number of stripe numbers
 DOMAINS = ["domain", "nodes", "online", "homes", "targets", "load", "slots", "stripes", *LEVELS]
 HOMES = [f"home_{fragment}" for fragment in FRAGMENTS]
 HEADS = {
@@ -22,6 +23,7 @@ HEADS = {
     "domains fault": DOMAINS,
     "domains upgrade": DOMAINS,
     "health": ["reason", "count", "first"],
+    "capacity": ["code", "stripes", "fragment", "not_active", "offline", "full", "fault_domain", "upgrade_domain", "free_slots"],
 }
 
 REPORTS = {"may-stop": "down", "may-lose": "fail"}
@@ -218,6 +220,64 @@ def health_rows(store):
     return rows or [["ok", 0, ""]]
 
 
+def clash(code, fragment, node, other, beside):
+    """The condition by which a fragment on one node rules out another node for a fragment of its stripe, if it does."""
+    if node.fault == beside.fault:
+        return "fault_domain"
+    return "upgrade_domain" if code.class_of[fragment] >> other & 1 and node.upgrade == beside.upgrade else None
+
+
+class Filling:
+    """Stripes of a code that are placed on a store, one after the other, by the loads of its nodes alone."""
+
+    def __init__(self, store, code):
+        self.store, self.code = store, code
+        self.load = Counter(node for _, (node, _) in store.held())
+
+    def takes_seats(self, node):
+        return self.store.mode[node] == "active" and self.store.is_online(node)
+
+    def ruled_out(self, number, fragment, placed):
+        """The first condition that rules out a node for a fragment, where other fragments of its stripe are placed."""
+        nodes = self.store.nodes
+        if self.store.mode[number] != "active":
+            return "not_active"
+        if not self.store.is_online(number):
+            return "offline"
+        if self.load[number] >= nodes[number].slots:
+            return "full"
+        met = {clash(self.code, fragment, nodes[number], other, nodes[node]) for other, node in placed.items()}
+        return next((word for word in ("fault_domain", "upgrade_domain") if word in met), None)
+
+    def place(self):
+        """Places a stripe. Or returns the first fragment without a node, and how many nodes each condition rules out."""
+        placed = {}
+        for fragment in self.code.fragments:
+            words = {node: self.ruled_out(node, fragment, placed) for node in self.store.nodes}
+            fitting = [node for node, word in words.items() if word is None]
+            if not fitting:
+                counts = Counter(words.values())
+                return [fragment, *(counts[word] for word in HEADS["capacity"][3:8])]
+            placed[fragment] = min(fitting, key=lambda node: (self.load[node], node))
+            self.load[placed[fragment]] += 1
+        return None
+
+    def free_slots(self):
+        return sum(self.store.nodes[node].slots - self.load[node] for node in self.store.nodes if self.takes_seats(node))
+
+
+def capacity_rows(store):
+    """For each code how many stripes are placed with the numbers that are left, and why no more."""
+    for code in rules.WIDE, rules.NARROW:
+        filling, refused, free = Filling(store, code), [""] * 6, None
+        for count in range(STRIPES - len(store.stripes) + 1):
+            free = filling.free_slots()
+            if count + len(store.stripes) < STRIPES and (short := filling.place()):
+                refused = short
+                break
+        yield [code.name, count, *refused, free]
+
+
 def is_in_danger(store):
     """Whether `show health` ends with status 4."""
     return any(level in LEVELS[3:] for level in levels_of(store).values())
@@ -232,7 +292,8 @@ def shown(view, store, entries):
     word, *kind = view.split(" ")
     rows = {"status": lambda: status_rows(store, entries), "stripes": lambda: stripes_rows(store), "nodes": lambda: nodes_rows(store),
             "leases": lambda: leases_rows(store), "work": lambda: work_rows(store), "fragments": lambda: fragments_rows(store),
-            "domains": lambda: domains_rows(store, *kind), "health": lambda: health_rows(store)}
+            "domains": lambda: domains_rows(store, *kind), "health": lambda: health_rows(store),
+            "capacity": lambda: capacity_rows(store)}
     return text_of(HEADS[view], rows[word]())
 
 

@@ -16,6 +16,7 @@ The seed, by default that of the hour, is printed. It is that of some of the sto
   `check` refuses it, with the line on standard output.
 
 The last line is 'N passed, M failed'."""
+import copy
 import os
 import re
 import subprocess
@@ -27,8 +28,8 @@ from tests import harness
 from tests.harness import parts_of
 from tests.model import causes, draws, returns, rules
 from tests.model.draws import numbers
-from tests.model.shown import FORECAST, LEVELS, REPORTS, VIEWS, after_reports, domains_of, domains_rows, forecast, health_rows
-from tests.model.shown import is_in_danger, level_counts, levels_of, nodes_of, shown
+from tests.model.shown import FORECAST, LEVELS, REPORTS, STRIPES, VIEWS, after_reports, capacity_rows, domains_of, domains_rows
+from tests.model.shown import forecast, health_rows, is_in_danger, level_counts, levels_of, nodes_of, shown
 
 DRAWN, LONG, QUICK, COMMANDS = 300, 3_000, 20, 60
 EACH = 5  # with --quick, one of so many bundles is taken
@@ -164,11 +165,26 @@ def expect_same_levels(count, name, store):
             count.check(f"{name}: {kind} domain {row[0]} has {told} and not {wanted}", told == wanted)
 
 
+def expect_capacity(count, name, store):
+    """The capacity that the model tells is how often the rules place, and what they refuse then."""
+    for row, word in zip(capacity_rows(store), ("place", "place6"), strict=True):
+        later, stripes, reply = copy.deepcopy(store), 0, ""
+        for stripe in (stripe for stripe in range(STRIPES) if stripe not in store.stripes):
+            reply = later.call(1, f"{word} {stripe}")
+            if not reply.startswith("placed "):
+                break
+            stripes += 1
+        told = [stripes, reply, sum(later.nodes[node].slots - later.load(node) for node in later.nodes_in("active") if later.is_online(node))]
+        count.check(f"{name}: {word} has {row} and not {told}", [row[1], f"refused 103 {row[2]}", row[-1]] == told)
+        count.check(f"{name}: conditions for some nodes alone: {row}", sum(row[3:8]) == len(store.nodes))
+
+
 def expect_drawn(program, seed):
     count = harness.Count()
     bundle, store, entries = drawn_bundle(seed)
     if seed % 10 == 0:
         expect_same_levels(count, f"drawn bundle {seed}", store)
+        expect_capacity(count, f"drawn bundle {seed}", store)
     expect_all(count, f"drawn bundle {seed}", program, bundle, store, entries)
     answered = expect_forecasts(count, f"drawn bundle {seed}", program, bundle, store, seed, 1)
     answered.update(row[0] for row in health_rows(store))

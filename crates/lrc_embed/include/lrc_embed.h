@@ -351,6 +351,7 @@ enum lrc_view {
     LRC_SHOW_DOMAINS_FAULT = 7,   // each fault domain, with the levels after its loss
     LRC_SHOW_DOMAINS_UPGRADE = 8, // each upgrade domain, with the levels after its stop
     LRC_SHOW_HEALTH = 9,          // each reason why not all is well
+    LRC_SHOW_CAPACITY = 10,       // how many more stripes of each code would be placed, and why no more
 };
 
 // What happens to nodes.

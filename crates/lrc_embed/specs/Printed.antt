@@ -15,7 +15,7 @@ use Rattle.lrc_text.specs.Texts.{reply_line}
 use Rattle.lrc_text.specs.Tables.{level_text, mode_text}
 use Rattle.lrc_refusals.specs.Refusals.{topology_words, line_words, row_words}
 use Rattle.lrc_show.specs.declared.view.View.{View}
-use Rattle.lrc_show.specs.declared.view.View.TheVariants.{Status, Stripes, Nodes, Leases, Work, Fragments, Domains, Health}
+use Rattle.lrc_show.specs.declared.view.View.TheVariants.{Status, Stripes, Nodes, Leases, Work, Fragments, Domains, Health, Capacity}
 use Rattle.lrc_show.specs.declared.domains.DomainKind.TheVariants as domain
 use Rattle.lrc_show.specs.Shown.{view_text}
 
@@ -35,7 +35,7 @@ view_of number =
     if nat_eq number 1 then Some Status else (if nat_eq number 2 then Some Stripes
     else (if nat_eq number 3 then Some Nodes else (if nat_eq number 4 then Some Leases else (if nat_eq number 5 then Some Work
     else (if nat_eq number 6 then Some Fragments else (if nat_eq number 7 then Some (Domains domain.Fault)
-    else (if nat_eq number 8 then Some (Domains domain.Upgrade) else (if nat_eq number 9 then Some Health else None))))))))
+    else (if nat_eq number 8 then Some (Domains domain.Upgrade) else (if nat_eq number 9 then Some Health else (if nat_eq number 10 then Some Capacity else None)))))))))
 
 -- the table of a book
 abbrev pub shown_of : BookView → View → List ℕ

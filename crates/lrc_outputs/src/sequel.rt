@@ -85,8 +85,7 @@ fn reach(
         }
         Goal::Table(view) => {
             make_scripts(book, scripts)?;
-            let output = table_output(alloc, book, view)?;
-            Ok(output)
+            Ok(table_output(alloc, book, view)?)
         }
         Goal::Forecast(outage, named) => forecast_after(alloc, book, scripts, outage, named),
     }

@@ -1,5 +1,5 @@
 -- The rows of domains.
-use Rattle.std.proofs.Common.{◌≡◌, ℕ, ◌+◌, ◌-◌, ◌≤◌, Bool, true, false, not, cond, List, [], ◌∷◌, ◌++◌, length, codes, decimal, map, filter, flat_map, refl, sym, ap, ◌∙◌, append_assoc, zero-add, arith}
+use Rattle.std.proofs.Common.{◌≡◌, ℕ, ◌+◌, ◌-◌, ◌≤◌, Bool, true, false, not, cond, List, [], ◌∷◌, ◌++◌, length, codes, decimal, map, filter, refl, sym, ap, ◌∙◌, append_assoc, zero-add, arith}
 use Rattle.std.specs.Prelude.{count_by, sum_by}
 use Rattle.std.proofs.lemmas.List.{length-map}
 use Rattle.std.proofs.lemmas.List.Concat.{flat_map-append}
@@ -16,11 +16,12 @@ use Rattle.lrc_rules.specs.States.{State, level}
 use Rattle.lrc_book.specs.Looks.{stripes_of, homes_on}
 use Rattle.lrc_forecast.specs.declared.outlook.Outage.{Outage}
 use Rattle.lrc_forecast.specs.declared.outlook.Outlook.{Outlook}
-use Rattle.lrc_forecast.specs.Forecasts.{is_risky, outlook, outlooks, state_with, forecast}
+use Rattle.lrc_forecast.specs.Forecasts.{is_risky, outlook, outlooks, forecast}
 use Rattle.lrc_groups.specs.declared.named.Named.{Named}
 use Rattle.lrc_groups.specs.Groups.{numbers_in}
 use Rattle.lrc_show.specs.declared.nodes.NodeFacts.{NodeFacts}
-use Rattle.lrc_show.specs.Shown.{is_level, is_among, is_hit, shown_number, level_count_in, level_fields, sum_fields, state_without, shown_domain, all_leases}
+use Rattle.lrc_show.specs.Listed.{all_leases}
+use Rattle.lrc_show.specs.Summed.{is_level, is_among, is_hit, shown_number, level_count_in, level_fields, sum_fields, state_without, shown_domain}
 use Rattle.lrc_show.specs.Facts.{node_facts, target_sum, outlook_count, sum_line, risk_fields, outlook_line}
 use Rattle.lrc_show.proofs.FragmentLemmas.{commas}
 

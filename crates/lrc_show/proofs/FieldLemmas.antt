@@ -9,7 +9,7 @@ use Rattle.lrc_code.specs.declared.numbers.Fragment.{Fragment}
 use Rattle.lrc_code.specs.Codes.{fragments, has_fragment, all_fragments}
 use Rattle.lrc_code.specs.Losses.{FragmentSet}
 use Rattle.lrc_text.specs.Texts.{spaced_words}
-use Rattle.lrc_show.specs.Shown.{fragments_field, members_of}
+use Rattle.lrc_show.specs.Listed.{fragments_field, members_of}
 
 -- ---- numbers with a space between
 

@@ -6,7 +6,8 @@ use Rattle.lrc_terms.specs.declared.level.Level.{Level}
 use Rattle.lrc_text.specs.Tables.{level_text, margin_field, online_text}
 use Rattle.lrc_forecast.specs.declared.outlook.Outlook.{Outlook}
 use Rattle.lrc_forecast.specs.Forecasts.{is_harmed}
-use Rattle.lrc_show.specs.Shown.{hex_field, fragments_field, members_of, margin_at, forecast_row}
+use Rattle.lrc_show.specs.Listed.{hex_field, fragments_field, members_of}
+use Rattle.lrc_show.specs.Shown.{margin_at, forecast_row}
 
 joined : (old n c lb mb la ma hx ms le h comma end : List ℕ)
     → ((((((old ++ (n ++ comma ++ c ++ comma)) ++ (lb ++ comma ++ mb ++ comma)) ++ (la ++ comma ++ ma ++ comma)) ++ hx) ++ comma) ++ ms) ++ (comma ++ le ++ comma ++ h ++ end)

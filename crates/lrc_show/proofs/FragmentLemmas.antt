@@ -1,5 +1,5 @@
 -- The rows of fragments.
-use Rattle.std.proofs.Common.{◌≡◌, ℕ, ◌<◌, Bool, true, false, if◌then◌else◌, List, [], ◌∷◌, ◌++◌, length, get_or, codes, decimal, map, flat_map, Option, Some, None, refl, sym, ap, ◌∙◌, append_assoc}
+use Rattle.std.proofs.Common.{◌≡◌, ℕ, ◌<◌, Bool, true, false, if◌then◌else◌, List, [], ◌++◌, length, get_or, codes, decimal, map, flat_map, Option, None, refl, sym, ap, ◌∙◌, append_assoc}
 use Rattle.std.proofs.lemmas.List.{get_or-map}
 use Rattle.std.proofs.lemmas.List.Concat.{flat_map-append}
 use Rattle.lrc_code.specs.declared.codes.Code.{Code}
@@ -13,7 +13,7 @@ use Rattle.lrc_terms.specs.declared.lease.Lease.{Lease}
 use Rattle.lrc_terms.specs.Levels.{homes_of}
 use Rattle.lrc_rules.specs.States.{State, code_of, lease_of}
 use Rattle.lrc_book.proofs.ImagedLemmas.{item-number}
-use Rattle.lrc_show.specs.Shown.{whereabouts, lease_fields, fragment_line, shown_fragment, fragment_rows}
+use Rattle.lrc_show.specs.Listed.{whereabouts, lease_fields, fragment_line, shown_fragment, fragment_rows}
 
 -- fields with a comma before each
 abbrev pub commas : List (List ℕ) → List ℕ

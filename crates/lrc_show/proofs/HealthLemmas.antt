@@ -1,14 +1,13 @@
 -- The reasons why not all is well.
-use Rattle.std.proofs.Common.{◌≡◌, ℕ, ◌+◌, ◌<◌, ◌≤◌, Bool, true, false, not, cond, if◌then◌else◌, ◌&&◌, ◌||◌, List, [], ◌∷◌, ◌++◌, length, get_or, take, map, filter, flat_map, Some, None, codes, decimal, arith, refl, sym, ap, subst, ◌∙◌}
+use Rattle.std.proofs.Common.{◌≡◌, ℕ, ◌+◌, ◌<◌, ◌≤◌, Bool, true, false, not, cond, if◌then◌else◌, ◌&&◌, ◌||◌, List, [], ◌∷◌, ◌++◌, length, get_or, take, map, filter, flat_map, Some, None, decimal, arith, refl, sym, ap, subst, ◌∙◌}
 use Rattle.std.specs.Prelude.{is_some, sum_by}
 use Rattle.std.specs.List.{list_any, Contains}
 use Rattle.std.specs.Option.{option_map_or}
 use Rattle.std.proofs.lemmas.List.{take_all}
 use Rattle.std.proofs.lemmas.List.Folds.{fold-map}
-use Rattle.lrc_code.specs.declared.codes.Code.{Code}
 use Rattle.lrc_code.specs.declared.numbers.StripeNo.{StripeNo}
 use Rattle.lrc_code.specs.declared.numbers.Fragment.{Fragment}
-use Rattle.lrc_code.specs.Codes.{fragments, all_fragments}
+use Rattle.lrc_code.specs.Codes.{all_fragments}
 use Rattle.lrc_topology.specs.declared.NodeInfo.{NodeInfo}
 use Rattle.lrc_terms.specs.declared.level.Level.{Level}
 use Rattle.lrc_terms.specs.declared.level.Level.TheVariants.{Whole, AtRisk, Unavailable, Lost}
@@ -20,9 +19,9 @@ use Rattle.lrc_rules.specs.Repairs.{needs, kind}
 use Rattle.lrc_rules.specs.Urgency.{work}
 use Rattle.lrc_rules.proofs.ListedLemmas.{work-listed}
 use Rattle.lrc_book.specs.Looks.{kind_shown}
-use Rattle.lrc_forecast.specs.declared.outlook.Outlook.{Outlook}
 use Rattle.lrc_forecast.specs.Forecasts.{is_risky, outlook, outlooks}
-use Rattle.lrc_show.specs.Shown.{is_level, needing_of, is_lost_by, is_grave, slots_row, reason_row, shown_number}
+use Rattle.lrc_show.specs.Summed.{is_level, shown_number}
+use Rattle.lrc_show.specs.Reasons.{needing_of, is_lost_by, is_grave, slots_row, reason_row}
 use Rattle.lrc_text.specs.Tables.{table_line}
 use Rattle.lrc_groups.specs.declared.named.Named.{Named}
 use Rattle.lrc_show.specs.declared.nodes.NodeFacts.{NodeFacts}

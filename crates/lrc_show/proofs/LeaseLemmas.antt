@@ -6,7 +6,7 @@ use Rattle.lrc_code.specs.declared.numbers.Fragment.{Fragment}
 use Rattle.lrc_code.specs.Codes.{all_fragments}
 use Rattle.lrc_terms.specs.declared.lease.Lease.{Lease}
 use Rattle.lrc_rules.specs.States.{State, lease_of}
-use Rattle.lrc_show.specs.Shown.{leases_of}
+use Rattle.lrc_show.specs.Listed.{leases_of}
 
 pub leases-all : (st : State) (s : StripeNo) (i : ℕ) (rows before : List Lease)
     → rows ≡ before ++ flat_map (λ (f : Fragment). option_to_list (lease_of st s f)) (take i all_fragments) → i ≡ 16 → rows ≡ before ++ leases_of st s

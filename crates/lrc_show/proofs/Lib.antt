@@ -1,4 +1,5 @@
 pub mod ListLemmas
+pub mod CapacityRowLemmas
 pub mod StripeLemmas
 pub mod LeaseLemmas
 pub mod NodeLemmas

@@ -7,7 +7,7 @@ use Rattle.lrc_terms.specs.declared.lease.Lease.{Lease}
 use Rattle.lrc_rules.specs.States.{State}
 use Rattle.lrc_book.specs.Looks.{homes_on}
 use Rattle.lrc_show.specs.declared.nodes.NodeFacts.{NodeFacts}
-use Rattle.lrc_show.specs.Shown.{all_leases, shown_node}
+use Rattle.lrc_show.specs.Listed.{all_leases, shown_node}
 use Rattle.lrc_show.specs.Facts.{node_facts, node_line, facts_row}
 
 module _ (st : State) where

@@ -21,7 +21,7 @@ use Rattle.lrc_topology.specs.declared.seat.Seat.{Seat}
 use Rattle.lrc_terms.specs.Levels.{homes_of}
 use Rattle.lrc_rules.specs.States.{State, code_of, online_at, missing}
 use Rattle.lrc_rules.specs.Repairs.{needs, kind, local_kind, is_at_home, is_safe}
-use Rattle.lrc_show.specs.Shown.{reads}
+use Rattle.lrc_show.specs.Listed.{reads}
 
 reads-local : (code : Code) (safe : Bool) (sources : List Fragment) → reads code safe (local_kind code sources) ≡ Some (length sources)
 reads-local Wide safe sources = refl

@@ -11,7 +11,7 @@ use Rattle.lrc_code.specs.declared.codes.Class.TheVariants.{A, B, G}
 use Rattle.lrc_code.specs.declared.losses.LossMask.{LossMask}
 use Rattle.lrc_code.specs.declared.numbers.StripeNo.{StripeNo}
 use Rattle.lrc_code.specs.declared.numbers.Fragment.{Fragment}
-use Rattle.lrc_code.specs.Codes.{fragments, fragment_count, has_fragment, code_name, all_fragments}
+use Rattle.lrc_code.specs.Codes.{fragment_count, has_fragment, code_name, all_fragments}
 use Rattle.lrc_code.specs.Losses.{FragmentSet, losses_in, margin_of, is_recoverable, bits_set, bits_of}
 use Rattle.lrc_code.proofs.BitsLemmas.{bits_set-bits_of}
 use Rattle.lrc_code.proofs.LossesLemmas.{losses_in-within}
@@ -23,7 +23,7 @@ use Rattle.lrc_terms.specs.Levels.{Homes, homes_of, homeless_in}
 use Rattle.lrc_rules.specs.States.{State, has_stripe, code_of, missing, code_shown, homes_shown, level_shown, missing_shown}
 use Rattle.lrc_rules.specs.Repairs.{is_safe}
 use Rattle.lrc_text.specs.Tables.{level_text, margin_field}
-use Rattle.lrc_show.specs.Shown.{hex_field, fragments_field, members_of, home_field, home_fields, stripe_line, shown_stripe}
+use Rattle.lrc_show.specs.Listed.{hex_field, fragments_field, members_of, home_field, home_fields, stripe_line, shown_stripe}
 use Rattle.lrc_book.specs.Looks.{stripes_of}
 use Rattle.lrc_show.proofs.FieldLemmas.{members-all}
 use Rattle.lrc_book.proofs.StripeLemmas.{stripes_below, code-told, level-told, mask-told, stripes-all}

@@ -8,7 +8,8 @@ use Rattle.lrc_rules.specs.States.{State}
 use Rattle.lrc_show.specs.declared.nodes.NodeFacts.{NodeFacts}
 use Rattle.lrc_show.specs.declared.stripe_facts.StripeFacts.{StripeFacts}
 use Rattle.lrc_book.specs.Looks.{stripes_of}
-use Rattle.lrc_show.specs.Shown.{all_leases, value_row, level_values, stripe_values, seat_values, node_values, time_values, status_table}
+use Rattle.lrc_show.specs.Listed.{all_leases}
+use Rattle.lrc_show.specs.Summed.{value_row, level_values, stripe_values, seat_values, node_values, time_values, status_table}
 use Rattle.lrc_show.specs.Facts.{stripe_facts, level_lines, stripe_lines, node_facts, seat_lines, node_lines}
 use Rattle.lrc_book.proofs.StripeLemmas.{few-stripes}
 

@@ -5,7 +5,7 @@ use Rattle.std.specs.Option.{option_map_or}
 use Rattle.std.proofs.lemmas.List.{take_all}
 use Rattle.lrc_code.specs.declared.numbers.StripeNo.{StripeNo}
 use Rattle.lrc_code.specs.declared.numbers.Fragment.{Fragment}
-use Rattle.lrc_code.specs.Codes.{fragments, all_fragments}
+use Rattle.lrc_code.specs.Codes.{all_fragments}
 use Rattle.lrc_topology.specs.declared.NodeInfo.{NodeInfo}
 use Rattle.lrc_terms.specs.Levels.{homes_of}
 use Rattle.lrc_rules.specs.declared.kind.Kind.{Kind}
@@ -15,7 +15,7 @@ use Rattle.lrc_rules.specs.Urgency.{work}
 use Rattle.lrc_rules.proofs.ListedLemmas.{work-listed}
 use Rattle.lrc_book.specs.Looks.{kind_shown}
 use Rattle.lrc_text.specs.Tables.{table_line}
-use Rattle.lrc_show.specs.Shown.{kind_word, lease_sources, reads, reads_field, fragments_field, standing_fields, work_row, work_rows}
+use Rattle.lrc_show.specs.Listed.{kind_word, lease_sources, reads, reads_field, fragments_field, standing_fields, work_row, work_rows}
 use Rattle.lrc_show.proofs.FieldLemmas.{own-all, texts-passing}
 use Rattle.lrc_show.proofs.ListLemmas.{flat-more}
 use Rattle.lrc_show.proofs.RowLemmas.{some-if}

@@ -13,9 +13,11 @@ use Rattle.lrc_rules.specs.States.{State, code_of, load, mode_of, is_down, is_up
 use Rattle.lrc_book.specs.Looks.{homes_on}
 use Rattle.lrc_forecast.specs.declared.outlook.Outlook.{Outlook}
 use Rattle.lrc_text.specs.Tables.{table_line, mode_text, online_text}
+use Rattle.lrc_capacity.specs.declared.room.NodeRoom.{NodeRoom}
 use Rattle.lrc_show.specs.declared.nodes.NodeFacts.{NodeFacts}
 use Rattle.lrc_show.specs.declared.stripe_facts.StripeFacts.{StripeFacts}
-use Rattle.lrc_show.specs.Shown.{presence_word, why_words, value_row, is_level}
+use Rattle.lrc_show.specs.Listed.{presence_word, why_words}
+use Rattle.lrc_show.specs.Summed.{value_row, is_level}
 
 -- ---- stripes
 
@@ -79,6 +81,12 @@ node_lines nodes =
     value_row (codes "nodes_active") (decimal (count_by (λ n. is_active n.mode) nodes)) ++ value_row (codes "nodes_draining") (decimal (count_by (λ n. is_draining n.mode) nodes))
     ++ value_row (codes "nodes_gone") (decimal (count_by (λ n. is_gone n.mode) nodes)) ++ value_row (codes "nodes_down") (decimal (count_by (λ n. n.is_down) nodes))
     ++ value_row (codes "nodes_online") (decimal (count_by (λ n. n.is_online) nodes))
+
+-- ---- capacity
+
+-- what the choice of a seat reads of a node
+abbrev pub room_in : NodeFacts → NodeRoom
+room_in n = record { node = n.node; is_active = is_active n.mode; is_online = n.is_online; load = n.load }
 
 -- ---- fragments
 

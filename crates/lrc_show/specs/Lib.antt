@@ -8,7 +8,12 @@ pub use Rattle.lrc_book.specs.Books
 pub use Rattle.lrc_book.specs.Looks
 pub use Rattle.lrc_forecast.specs.Forecasts
 pub use Rattle.lrc_groups.specs.Groups
+pub use Rattle.lrc_capacity.specs.Capacities
 pub use Rattle.lrc_text.specs.Tables
 pub use Rattle.lrc_text.specs.Texts
+pub mod Listed
+pub mod Summed
+pub mod Reasons
+pub mod CapacityRows
 pub mod Shown
 pub mod Facts

@@ -9,7 +9,8 @@ ghost use Rattle.lrc_forecast.specs.Forecasts.{is_on_any, forecast};
 ghost use Rattle.lrc_groups.specs.Groups.{has_named, numbers_in};
 ghost use Rattle.lrc_book.specs.Books.{state_of};
 ghost use Rattle.lrc_book.specs.Looks.{homes_on, stripes_of};
-ghost use Rattle.lrc_show.specs.Shown.{domain_at, all_domains, outage_for, shown_number, is_among, is_hit, shown_domain, domains_table, all_leases};
+ghost use Rattle.lrc_show.specs.Listed.{all_leases};
+ghost use Rattle.lrc_show.specs.Summed.{domain_at, all_domains, outage_for, shown_number, is_among, is_hit, shown_domain, domains_table};
 ghost use Rattle.lrc_show.specs.Facts.{node_facts, target_sum, outlook_count, sum_line, risk_fields, outlook_line};
 
 use crate::leases::leases_of;

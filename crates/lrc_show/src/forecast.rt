@@ -6,7 +6,8 @@ ghost use Rattle.lrc_code.specs.Codes.{code_name};
 ghost use Rattle.lrc_code.specs.Losses.{bits_set};
 ghost use Rattle.lrc_forecast.specs.Forecasts.{is_harmed};
 ghost use Rattle.lrc_text.specs.Tables.{level_text, margin_field, online_text};
-ghost use Rattle.lrc_show.specs.Shown.{hex_field, fragments_field, members_of, margin_at, forecast_row, forecast_text};
+ghost use Rattle.lrc_show.specs.Listed.{hex_field, fragments_field, members_of};
+ghost use Rattle.lrc_show.specs.Shown.{margin_at, forecast_row, forecast_text};
 
 use crate::words::{push_margin, push_mask, push_members};
 use lrc_book::Level;

@@ -5,7 +5,7 @@ ghost use Rattle.lrc_code.specs.declared.fault.Fault.TheVariants as fault;
 ghost use Rattle.lrc_rules.specs.States.{has_stripe, lease_of};
 ghost use Rattle.lrc_topology.specs.Nodes.{node_at};
 ghost use Rattle.lrc_book.specs.Books.{state_of};
-ghost use Rattle.lrc_show.specs.Shown.{presence_word, why_words, node_fields, whereabouts, lease_fields, fragment_line, fragment_rows, fragments_table};
+ghost use Rattle.lrc_show.specs.Listed.{presence_word, why_words, node_fields, whereabouts, lease_fields, fragment_line, fragment_rows, fragments_table};
 ghost use Rattle.lrc_show.specs.Facts.{facts_fields};
 
 use crate::nodes::{NodeFacts, facts_of};

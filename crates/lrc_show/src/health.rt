@@ -8,7 +8,8 @@ ghost use Rattle.lrc_book.specs.Books.{state_of};
 ghost use Rattle.lrc_book.specs.Looks.{is_granted_now};
 ghost use Rattle.lrc_terms.specs.Modes.{is_active};
 ghost use Rattle.lrc_text.specs.Tables.{table_line};
-ghost use Rattle.lrc_show.specs.Shown.{is_level, reason_row, fragment_words, stripes_at, needing_of, needing, finds_no_node, ending_fragments, loses_stripe, fragile_domains, shown_number, slots_row, level_reasons, repair_reasons, room_reasons, health_table, is_grave, is_in_danger};
+ghost use Rattle.lrc_show.specs.Summed.{is_level, shown_number};
+ghost use Rattle.lrc_show.specs.Reasons.{reason_row, fragment_words, stripes_at, needing_of, needing, finds_no_node, ending_fragments, loses_stripe, fragile_domains, slots_row, level_reasons, repair_reasons, room_reasons, health_table, is_grave, is_in_danger};
 ghost use Rattle.lrc_show.specs.Facts.{node_facts, is_newly_lost};
 
 use crate::domains::{DomainKind, all_domains, shown_number};

@@ -9,7 +9,7 @@ ghost use Rattle.lrc_field.specs.Recipes.{IsRecipe, read_by};
 ghost use Rattle.lrc_topology.specs.declared.NodeInfo.{NodeInfo};
 ghost use Rattle.lrc_rules.specs.States.{State, code_of, missing};
 ghost use Rattle.lrc_rules.specs.Repairs.{needs, kind, is_safe};
-ghost use Rattle.lrc_show.specs.Shown.{reads};
+ghost use Rattle.lrc_show.specs.Listed.{reads};
 
 /// The number that the table of work shows under `reads` is, for a missing fragment, the number of fragments that each
 /// recipe of it reads where the stripe's missing fragments are missing. It is left out exactly if what is not missing does

@@ -3,7 +3,7 @@
 ghost use Rattle.std.specs.Prelude.{◌≡◌, ◌++◌, string_bytes, IfOk, OnOk, IfErr};
 ghost use Rattle.lrc_code.specs.declared.fault.Fault.TheVariants as fault;
 ghost use Rattle.lrc_book.specs.Books.{state_of};
-ghost use Rattle.lrc_show.specs.Shown.{shown_lease, leases_of, all_leases, leases_table};
+ghost use Rattle.lrc_show.specs.Listed.{shown_lease, leases_of, all_leases, leases_table};
 
 use lrc_book::{Book, Lease};
 use lrc_code::{Fault, Fragment, StripeNo};

@@ -1,6 +1,7 @@
-//! The tables that `lrcman show` and `lrcman forecast` print.
+//! The tables that `lrcman show`, `may-stop` and `may-lose` print.
 #![tactic(auto)]
 
+mod capacity;
 mod domains;
 mod forecast;
 mod fragments;

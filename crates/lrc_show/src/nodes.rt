@@ -5,7 +5,7 @@ ghost use Rattle.lrc_code.specs.declared.fault.Fault.TheVariants as fault;
 ghost use Rattle.lrc_code.specs.Numbers.{same_node};
 ghost use Rattle.lrc_topology.specs.Nodes.{node_at};
 ghost use Rattle.lrc_book.specs.Books.{state_of};
-ghost use Rattle.lrc_show.specs.Shown.{nodes_table};
+ghost use Rattle.lrc_show.specs.Listed.{nodes_table};
 ghost use Rattle.lrc_show.specs.Facts.{node_facts, node_line, facts_row};
 
 use crate::leases::leases_of;

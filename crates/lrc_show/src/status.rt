@@ -4,7 +4,7 @@ ghost use Rattle.std.specs.Prelude.{◌≡◌, ◌≤◌, ◌+◌, ◌++◌, dec
 ghost use Rattle.lrc_code.specs.declared.fault.Fault.TheVariants as fault;
 ghost use Rattle.lrc_terms.specs.Modes.{is_active, is_draining, is_gone};
 ghost use Rattle.lrc_book.specs.Books.{state_of};
-ghost use Rattle.lrc_show.specs.Shown.{value_row, time_values, status_table};
+ghost use Rattle.lrc_show.specs.Summed.{value_row, time_values, status_table};
 ghost use Rattle.lrc_show.specs.Facts.{at_level, level_lines, stripe_lines, seat_lines, node_lines};
 
 use crate::leases::leases_of;

@@ -8,7 +8,7 @@ ghost use Rattle.lrc_terms.specs.Levels.{Homes};
 ghost use Rattle.lrc_rules.specs.States.{has_stripe};
 ghost use Rattle.lrc_book.specs.Books.{state_of};
 ghost use Rattle.lrc_text.specs.Tables.{level_text};
-ghost use Rattle.lrc_show.specs.Shown.{hex_field, fragments_field, members_of, home_field, stripe_line, shown_stripe, stripes_table};
+ghost use Rattle.lrc_show.specs.Listed.{hex_field, fragments_field, members_of, home_field, stripe_line, shown_stripe, stripes_table};
 
 use crate::words::{push_margin, push_mask, push_members};
 use lrc_book::{Book, Level, Seat, homeless_of};

@@ -5,6 +5,7 @@ ghost use Rattle.lrc_code.specs.declared.fault.Fault.TheVariants as fault;
 ghost use Rattle.lrc_book.specs.Books.{state_of};
 ghost use Rattle.lrc_show.specs.Shown.{view_text, tells_danger};
 
+use crate::capacity::push_capacities;
 use crate::domains::{DomainKind, push_domains};
 use crate::fragments::push_fragment_table;
 use crate::health::{is_in_danger, push_health};
@@ -36,6 +37,8 @@ pub enum View {
     Domains(DomainKind),
     /// Each reason why not all is well.
     Health,
+    /// How many more stripes of each code the choice rule places, and why no more.
+    Capacity,
 }
 
 /// The table of a book's state: a line of heads and a line for each row, of fields with commas between them.
@@ -57,6 +60,7 @@ pub fn shown(alloc: Global, book: &Book, view: View) -> Result<Vec<u8>, Fault>
         View::Fragments => push_fragment_table(&mut out, alloc, book)?,
         View::Domains(kind) => push_domains(&mut out, alloc, book, kind)?,
         View::Health => push_health(&mut out, alloc, book)?,
+        View::Capacity => push_capacities(&mut out, alloc, book)?,
     }
     Ok(out.into_bytes())
 }
@@ -79,6 +83,7 @@ pub fn tells_danger(alloc: Global, book: &Book, view: View) -> Result<bool, Faul
         | View::Leases
         | View::Work
         | View::Fragments
-        | View::Domains(_) => Ok(false),
+        | View::Domains(_)
+        | View::Capacity => Ok(false),
     }
 }

@@ -4,7 +4,7 @@ ghost use Rattle.std.specs.Prelude.{◌≡◌, ◌&&◌, ◌++◌, if◌then◌e
 ghost use Rattle.lrc_code.specs.Codes.{has_fragment};
 ghost use Rattle.lrc_code.specs.Losses.{bits_set};
 ghost use Rattle.lrc_text.specs.Tables.{margin_field};
-ghost use Rattle.lrc_show.specs.Shown.{hex_field, fragments_field, members_of};
+ghost use Rattle.lrc_show.specs.Listed.{hex_field, fragments_field, members_of};
 
 use lrc_code::{Code, Fragment, LossMask};
 use std::alloc::AllocError;

@@ -7,7 +7,7 @@ ghost use Rattle.lrc_rules.specs.States.{has_stripe, code_of, lease_of};
 ghost use Rattle.lrc_rules.specs.Repairs.{is_global, is_safe, is_beyond_repair};
 ghost use Rattle.lrc_book.specs.Books.{state_of};
 ghost use Rattle.lrc_book.specs.Looks.{kind_shown};
-ghost use Rattle.lrc_show.specs.Shown.{kind_word, lease_sources, reads, reads_field, unleased_word, standing_fields, work_row, work_rows, work_table};
+ghost use Rattle.lrc_show.specs.Listed.{kind_word, lease_sources, reads, reads_field, unleased_word, standing_fields, work_row, work_rows, work_table};
 
 use crate::words::push_fragments;
 use lrc_book::{Book, Kind};

@@ -19,6 +19,7 @@ pub(crate) fn parse_view(words: &[&str]) -> Result<View, Stop> {
         "work" => Ok(View::Work),
         "fragments" => Ok(View::Fragments),
         "health" => Ok(View::Health),
+        "capacity" => Ok(View::Capacity),
         _ => Err(Stop::Usage),
     }
 }

@@ -32,8 +32,8 @@ const MOST_BEFORE: u64 = 9_223_372_036_854_775_808;
 const MOST_NUMBER: usize = 9_223_372_036_856_000_000;
 
 /// A table of the book: 1 is its status, 2 its stripes, 3 its nodes, 4 its leases, 5 its work, 6 its fragments, 7 its fault
-/// domains, 8 its upgrade domains, and 9 its health. It fills the first `length` bytes. If there is less room, nothing is
-/// written but the `length` that it needs.
+/// domains, 8 its upgrade domains, 9 its health, and 10 its capacity. It fills the first `length` bytes. If there is less
+/// room, nothing is written but the `length` that it needs.
 #[unsafe(no_mangle)]
 pub extern "C" fn lrc_embed_show(
     alloc: Global,
@@ -81,6 +81,7 @@ fn view_numbered(number: u8) -> Option<View>
         7 => Some(View::Domains(DomainKind::Fault)),
         8 => Some(View::Domains(DomainKind::Upgrade)),
         9 => Some(View::Health),
+        10 => Some(View::Capacity),
         _ => None,
     }
 }

@@ -1,9 +1,9 @@
-use Rattle.std.proofs.Common.{rules, ◌≡◌, ℕ, ◌+◌, Bool, true, false, cond, List, [], ◌∷◌, ◌++◌, map, filter, sym, ap, ◌∙◌, append-nil, zero-add, arith}
+use Rattle.std.proofs.Common.{rules, ◌≡◌, ℕ, Bool, true, false, cond, List, [], ◌∷◌, ◌++◌, map, filter, sym, ap, ◌∙◌, append-nil, zero-add, arith}
 use Rattle.std.specs.List.{range_with_len}
 use Rattle.std.proofs.lemmas.List.FromFn.{filter_of_map_range_with_len_more}
 use Rattle.lrc_groups.specs.declared.named.Named.{Named}
 use Rattle.lrc_groups.specs.Groups.{has_named}
-use Rattle.lrc_show.specs.Shown.{domain_at, all_domains}
+use Rattle.lrc_show.specs.Summed.{domain_at, all_domains}
 use Rattle.lrc_show.proofs.domains.all_domains.Goals as goal
 use Rattle.lrc_show.proofs.domains.all_domains.Goals.{then-has_node+in_ok-push, else-has_node}
 

@@ -1,7 +1,7 @@
 use Rattle.std.proofs.Common.{◌≡◌, map, filter}
 use Rattle.std.specs.List.{range_with_len}
 use Rattle.lrc_groups.specs.Groups.{has_named}
-use Rattle.lrc_show.specs.Shown.{domain_at}
+use Rattle.lrc_show.specs.Summed.{domain_at}
 use Rattle.lrc_show.proofs.domains.all_domains.Given as goal
 
 -- the domains of the numbers so far

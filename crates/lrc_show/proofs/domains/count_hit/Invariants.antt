@@ -1,7 +1,7 @@
 use Rattle.std.proofs.Common.{◌≡◌, ◌≤◌, take}
 use Rattle.std.specs.Prelude.{count_by}
 use Rattle.lrc_book.specs.Books.{state_of}
-use Rattle.lrc_show.specs.Shown.{is_hit}
+use Rattle.lrc_show.specs.Summed.{is_hit}
 use Rattle.lrc_show.proofs.domains.count_hit.Given as goal
 
 -- how many of the stripes so far are hit

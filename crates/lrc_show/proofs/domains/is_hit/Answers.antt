@@ -1,4 +1,4 @@
-use Rattle.std.proofs.Common.{rules, ◌≡◌, List, Option, Some, None, get_or, refl, ap, ◌∙◌}
+use Rattle.std.proofs.Common.{rules, ◌≡◌, List, Option, Some, None, get_or, ap, ◌∙◌}
 use Rattle.std.specs.List.{list_any}
 use Rattle.std.proofs.lemmas.Option.{same_Some}
 use Rattle.lrc_code.specs.Codes.{all_fragments}

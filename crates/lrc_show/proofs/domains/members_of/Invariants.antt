@@ -1,5 +1,5 @@
 use Rattle.std.proofs.Common.{◌≡◌, take, filter}
-use Rattle.lrc_show.specs.Shown.{is_among}
+use Rattle.lrc_show.specs.Summed.{is_among}
 use Rattle.lrc_show.proofs.domains.members_of.Given as goal
 
 -- the members so far

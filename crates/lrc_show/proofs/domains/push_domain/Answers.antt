@@ -1,15 +1,12 @@
-use Rattle.std.proofs.Common.{rules, ◌≡◌, List, ℕ, ◌≤◌, ◌∷◌, [], ◌++◌, decimal, length, map, filter, string_bytes, sym, ap, subst, ◌∙◌, arith}
+use Rattle.std.proofs.Common.{rules, ◌≡◌, ℕ, ◌∷◌, [], ◌++◌, decimal, length, filter, string_bytes, ap, ◌∙◌, arith}
 use Rattle.std.specs.Prelude.{count_by}
-use Rattle.lrc_code.specs.declared.numbers.NodeNo.{NodeNo}
-use Rattle.lrc_topology.specs.declared.NodeInfo.{NodeInfo}
 use Rattle.lrc_book.specs.Books.{state_of}
 use Rattle.lrc_book.specs.Looks.{stripes_of}
 use Rattle.lrc_forecast.specs.Forecasts.{state_with, forecast}
-use Rattle.lrc_forecast.specs.declared.outlook.Outlook.{Outlook}
 use Rattle.lrc_groups.specs.Groups.{numbers_in}
 use Rattle.lrc_show.specs.declared.nodes.NodeFacts.{NodeFacts}
-use Rattle.lrc_show.specs.Shown.{is_among, is_hit, all_leases}
-use Rattle.lrc_show.specs.Facts.{node_facts}
+use Rattle.lrc_show.specs.Listed.{all_leases}
+use Rattle.lrc_show.specs.Summed.{is_among, is_hit}
 use Rattle.lrc_show.proofs.DomainLemmas.{few-kept, fewer-rows, members-told, domain-told}
 use Rattle.lrc_show.proofs.domains.push_domain.Goals as goal
 

@@ -1,7 +1,7 @@
 use Rattle.std.proofs.Common.{rules, ◌≡◌, ◌++◌, codes, flat_map, string_bytes, ap, ◌∙◌}
 use Rattle.lrc_forecast.specs.declared.outlook.Outage.{Outage}
 use Rattle.lrc_book.specs.Books.{state_of}
-use Rattle.lrc_show.specs.Shown.{all_domains, shown_domain}
+use Rattle.lrc_show.specs.Summed.{all_domains, shown_domain}
 use Rattle.lrc_show.proofs.ListLemmas.{table-all}
 use Rattle.lrc_show.proofs.domains.push_domains.Goals as goal
 

@@ -1,7 +1,7 @@
 use Rattle.std.proofs.Common.{◌≡◌, ◌++◌, take, string_bytes}
 use Rattle.std.specs.Prelude.{flat_map}
 use Rattle.lrc_book.specs.Books.{state_of}
-use Rattle.lrc_show.specs.Shown.{shown_domain}
+use Rattle.lrc_show.specs.Summed.{shown_domain}
 use Rattle.lrc_show.proofs.domains.push_domains.Given as goal
 
 -- the rows of the domains so far

@@ -2,8 +2,8 @@ use Rattle.std.proofs.Common.{string_bytes}
 use Rattle.lrc_rules.specs.States.{lease_of}
 use Rattle.lrc_book.specs.Books.{state_of}
 use Rattle.lrc_show.proofs.FragmentLemmas.{fragment-told}
-use Rattle.std.proofs.Common.{◌++◌, List, ℕ, ap, ◌∙◌}
-use Rattle.lrc_show.specs.Shown.{lease_fields}
+use Rattle.std.proofs.Common.{◌++◌, ap, ◌∙◌}
+use Rattle.lrc_show.specs.Listed.{lease_fields}
 use Rattle.lrc_show.proofs.FragmentLemmas.{commas}
 use Rattle.lrc_show.proofs.fragments.push_fragment.Goals as goal
 

@@ -1,7 +1,7 @@
 use Rattle.std.proofs.Common.{rules, ◌≡◌, codes, string_bytes}
 use Rattle.lrc_book.specs.Books.{state_of}
 use Rattle.lrc_book.specs.Looks.{stripes_of}
-use Rattle.lrc_show.specs.Shown.{fragment_rows}
+use Rattle.lrc_show.specs.Listed.{fragment_rows}
 use Rattle.lrc_show.proofs.ListLemmas.{table-all}
 use Rattle.lrc_show.proofs.fragments.push_fragment_table.Goals as goal
 

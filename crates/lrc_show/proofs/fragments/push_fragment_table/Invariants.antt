@@ -1,7 +1,7 @@
 use Rattle.std.proofs.Common.{◌≡◌, ◌++◌, take, string_bytes}
 use Rattle.std.specs.Prelude.{flat_map}
 use Rattle.lrc_book.specs.Books.{state_of}
-use Rattle.lrc_show.specs.Shown.{fragment_rows}
+use Rattle.lrc_show.specs.Listed.{fragment_rows}
 use Rattle.lrc_show.proofs.fragments.push_fragment_table.Given as goal
 
 -- the rows of the stripes so far

@@ -1,6 +1,6 @@
 use Rattle.std.proofs.Common.{◌≡◌, take, filter}
 use Rattle.lrc_book.specs.Books.{state_of}
-use Rattle.lrc_show.specs.Shown.{loses_stripe}
+use Rattle.lrc_show.specs.Reasons.{loses_stripe}
 use Rattle.lrc_show.proofs.health.fragile_domains.Given as goal
 
 -- those of the domains so far

@@ -3,7 +3,7 @@ use Rattle.std.proofs.lemmas.Option.{same_Some}
 use Rattle.lrc_rules.specs.States.{level_shown}
 use Rattle.lrc_book.specs.Books.{state_of}
 use Rattle.lrc_book.proofs.StripeLemmas.{level-told}
-use Rattle.lrc_show.specs.Shown.{is_level}
+use Rattle.lrc_show.specs.Summed.{is_level}
 use Rattle.lrc_show.proofs.health.is_at.Goals as goal
 
 pub unwrap-requires : goal.unwrap-requires

@@ -1,9 +1,9 @@
-use Rattle.std.proofs.Common.{rules, ◌≡◌, List, map, ap, ◌∙◌}
+use Rattle.std.proofs.Common.{rules, ◌≡◌, map, ap, ◌∙◌}
 use Rattle.std.specs.List.{list_any}
 use Rattle.lrc_book.specs.Books.{state_of}
 use Rattle.lrc_book.specs.Looks.{stripes_of}
 use Rattle.lrc_show.specs.declared.stripe_facts.StripeFacts.{StripeFacts}
-use Rattle.lrc_show.specs.Shown.{is_grave}
+use Rattle.lrc_show.specs.Reasons.{is_grave}
 use Rattle.lrc_show.specs.Facts.{stripe_facts}
 use Rattle.lrc_show.proofs.HealthLemmas.{any-grave}
 use Rattle.lrc_show.proofs.health.is_in_danger.Goals as goal

@@ -1,11 +1,11 @@
-use Rattle.std.proofs.Common.{rules, ◌≡◌, ◌∷◌, [], List, ap, ◌∙◌}
+use Rattle.std.proofs.Common.{rules, ◌≡◌, ◌∷◌, [], ap, ◌∙◌}
 use Rattle.std.specs.List.{list_any}
 use Rattle.lrc_book.specs.Books.{state_of}
 use Rattle.lrc_book.specs.Looks.{stripes_of}
 use Rattle.lrc_forecast.specs.declared.outlook.Outage.TheVariants.{Lose}
 use Rattle.lrc_forecast.specs.Forecasts.{forecast}
 use Rattle.lrc_groups.specs.Groups.{numbers_in}
-use Rattle.lrc_show.specs.Shown.{state_without}
+use Rattle.lrc_show.specs.Summed.{state_without}
 use Rattle.lrc_show.specs.Facts.{is_newly_lost}
 use Rattle.lrc_show.proofs.HealthLemmas.{lost-told}
 use Rattle.lrc_show.proofs.health.loses_stripe.Goals as goal

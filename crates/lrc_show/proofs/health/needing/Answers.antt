@@ -1,10 +1,9 @@
 use Rattle.std.proofs.Common.{rules, ◌≡◌, ap, ◌∙◌}
 use Rattle.std.specs.Prelude.{flat_map}
 use Rattle.std.proofs.lemmas.List.{take_all}
-use Rattle.lrc_code.specs.declared.numbers.StripeNo.{StripeNo}
 use Rattle.lrc_rules.specs.Urgency.{work}
 use Rattle.lrc_book.specs.Books.{state_of}
-use Rattle.lrc_show.specs.Shown.{needing_of}
+use Rattle.lrc_show.specs.Reasons.{needing_of}
 use Rattle.lrc_show.proofs.HealthLemmas.{needs-more}
 use Rattle.lrc_show.proofs.health.needing.Goals as goal
 

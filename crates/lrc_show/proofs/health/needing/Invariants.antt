@@ -1,7 +1,7 @@
 use Rattle.std.proofs.Common.{◌≡◌, take}
 use Rattle.std.specs.Prelude.{flat_map}
 use Rattle.lrc_book.specs.Books.{state_of}
-use Rattle.lrc_show.specs.Shown.{needing_of}
+use Rattle.lrc_show.specs.Reasons.{needing_of}
 use Rattle.lrc_show.proofs.health.needing.Given as goal
 
 -- the fragments of the stripes so far

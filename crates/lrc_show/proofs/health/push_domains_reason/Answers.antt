@@ -1,4 +1,4 @@
-use Rattle.std.proofs.Common.{rules, ◌≡◌, ◌++◌, ◌<◌, List, ℕ, length, codes, string_bytes, ap, ◌∙◌, arith}
+use Rattle.std.proofs.Common.{rules, ◌++◌, ◌<◌, List, ℕ, length, codes, string_bytes, ap, ◌∙◌, arith}
 use Rattle.lrc_show.proofs.HealthLemmas.{domains-reason}
 use Rattle.lrc_show.proofs.health.push_domains_reason.Goals as goal
 

@@ -1,5 +1,5 @@
 use Rattle.std.proofs.Common.{string_bytes}
-use Rattle.lrc_show.specs.Shown.{level_reasons}
+use Rattle.lrc_show.specs.Reasons.{level_reasons}
 use Rattle.lrc_show.proofs.StatusLemmas.{join}
 use Rattle.lrc_show.proofs.health.push_level_reasons.Goals as goal
 

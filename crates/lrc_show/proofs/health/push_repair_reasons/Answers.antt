@@ -2,7 +2,7 @@ use Rattle.std.proofs.Common.{rules, ◌≡◌, ◌++◌, List, filter, codes, s
 use Rattle.lrc_terms.specs.Stripes.{StripeFragment}
 use Rattle.lrc_book.specs.Books.{state_of}
 use Rattle.lrc_book.specs.Looks.{is_granted_now}
-use Rattle.lrc_show.specs.Shown.{reason_row, fragment_words, needing, finds_no_node, ending_fragments, repair_reasons}
+use Rattle.lrc_show.specs.Reasons.{reason_row, fragment_words, needing, finds_no_node, ending_fragments, repair_reasons}
 use Rattle.lrc_show.proofs.StatusLemmas.{join}
 use Rattle.lrc_show.proofs.health.push_repair_reasons.Goals as goal
 

@@ -3,7 +3,8 @@ use Rattle.lrc_terms.specs.Modes.{is_active}
 use Rattle.lrc_book.specs.Books.{state_of}
 use Rattle.lrc_groups.specs.declared.named.Named.{Named}
 use Rattle.lrc_show.specs.declared.nodes.NodeFacts.{NodeFacts}
-use Rattle.lrc_show.specs.Shown.{reason_row, shown_number, fragile_domains, room_reasons}
+use Rattle.lrc_show.specs.Summed.{shown_number}
+use Rattle.lrc_show.specs.Reasons.{reason_row, fragile_domains, room_reasons}
 use Rattle.lrc_show.specs.Facts.{node_facts}
 use Rattle.lrc_show.proofs.StatusLemmas.{join}
 use Rattle.lrc_show.proofs.HealthLemmas.{slots-told}

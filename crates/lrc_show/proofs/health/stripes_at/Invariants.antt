@@ -1,7 +1,7 @@
 use Rattle.std.proofs.Common.{◌≡◌, take, filter}
 use Rattle.lrc_rules.specs.States.{level}
 use Rattle.lrc_book.specs.Books.{state_of}
-use Rattle.lrc_show.specs.Shown.{is_level}
+use Rattle.lrc_show.specs.Summed.{is_level}
 use Rattle.lrc_show.proofs.health.stripes_at.Given as goal
 
 -- the stripes of the level so far

@@ -1,6 +1,6 @@
 use Rattle.std.proofs.Common.{◌≡◌, take, filter}
 use Rattle.lrc_book.specs.Books.{state_of}
-use Rattle.lrc_show.specs.Shown.{finds_no_node}
+use Rattle.lrc_show.specs.Reasons.{finds_no_node}
 use Rattle.lrc_show.proofs.health.without_node.Given as goal
 
 -- those of the fragments so far

@@ -1,6 +1,6 @@
 use Rattle.std.proofs.Common.{◌≡◌, ◌++◌, take}
 use Rattle.std.specs.Prelude.{flat_map, option_to_list}
-use Rattle.lrc_code.specs.Codes.{fragments, all_fragments}
+use Rattle.lrc_code.specs.Codes.{all_fragments}
 use Rattle.lrc_rules.specs.States.{lease_of}
 use Rattle.lrc_book.specs.Books.{state_of}
 use Rattle.lrc_show.proofs.leases.gather_leases.Given as goal

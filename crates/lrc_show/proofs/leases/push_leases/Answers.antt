@@ -1,6 +1,6 @@
 use Rattle.std.proofs.Common.{rules, ◌≡◌, codes, string_bytes}
 use Rattle.lrc_book.specs.Books.{state_of}
-use Rattle.lrc_show.specs.Shown.{shown_lease, all_leases}
+use Rattle.lrc_show.specs.Listed.{shown_lease, all_leases}
 use Rattle.lrc_show.proofs.ListLemmas.{table-all}
 use Rattle.lrc_show.proofs.leases.push_leases.Goals as goal
 

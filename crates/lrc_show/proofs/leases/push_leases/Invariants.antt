@@ -1,6 +1,6 @@
 use Rattle.std.proofs.Common.{◌≡◌, ◌++◌, take, string_bytes}
 use Rattle.std.specs.Prelude.{flat_map}
-use Rattle.lrc_show.specs.Shown.{shown_lease}
+use Rattle.lrc_show.specs.Listed.{shown_lease}
 use Rattle.lrc_show.proofs.leases.push_leases.Given as goal
 
 abbrev pub invariant-loop-lease : goal.invariant-loop-lease

@@ -1,6 +1,6 @@
 use Rattle.std.proofs.Common.{ℕ, ◌++◌, codes, string_bytes, ap, ◌∙◌}
 use Rattle.std.specs.Prelude.{decimal}
-use Rattle.lrc_show.specs.Shown.{value_row}
+use Rattle.lrc_show.specs.Summed.{value_row}
 use Rattle.lrc_show.specs.Facts.{node_lines}
 use Rattle.lrc_show.proofs.StatusLemmas.{row-join}
 use Rattle.lrc_show.proofs.status.push_node_values.Goals as goal

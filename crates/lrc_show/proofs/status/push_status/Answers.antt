@@ -1,7 +1,7 @@
 use Rattle.std.proofs.Common.{rules, ◌≡◌, ◌+◌, length, map, string_bytes, ap, arith}
 use Rattle.lrc_book.specs.Books.{state_of}
 use Rattle.lrc_book.specs.Looks.{stripes_of}
-use Rattle.lrc_show.specs.Shown.{all_leases}
+use Rattle.lrc_show.specs.Listed.{all_leases}
 use Rattle.lrc_show.specs.Facts.{stripe_facts, node_facts}
 use Rattle.lrc_show.proofs.StatusLemmas.{few-facts, status-told}
 use Rattle.lrc_show.proofs.status.push_status.Goals as goal

@@ -1,7 +1,7 @@
 use Rattle.std.proofs.Common.{◌≡◌, ◌++◌, take, get_or, codes, None, string_bytes}
 use Rattle.std.specs.Prelude.{flat_map}
-use Rattle.lrc_code.specs.Codes.{fragments, all_fragments}
-use Rattle.lrc_show.specs.Shown.{home_field}
+use Rattle.lrc_code.specs.Codes.{all_fragments}
+use Rattle.lrc_show.specs.Listed.{home_field}
 use Rattle.lrc_show.proofs.stripes.push_homes.Given as goal
 
 -- the homes of the fragments so far

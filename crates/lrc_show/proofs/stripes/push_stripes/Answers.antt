@@ -2,7 +2,7 @@ use Rattle.std.proofs.Common.{rules, ◌≡◌, ◌++◌, List, codes, flat_map,
 use Rattle.lrc_code.specs.declared.numbers.StripeNo.{StripeNo}
 use Rattle.lrc_terms.specs.Stripes.{stripe_at}
 use Rattle.lrc_book.specs.Books.{state_of}
-use Rattle.lrc_show.specs.Shown.{shown_stripe}
+use Rattle.lrc_show.specs.Listed.{shown_stripe}
 use Rattle.lrc_book.proofs.StripeLemmas.{own-number, stripes-none}
 use Rattle.lrc_show.proofs.RowLemmas.{rows-more, rows-all}
 use Rattle.lrc_show.proofs.stripes.push_stripes.Goals as goal

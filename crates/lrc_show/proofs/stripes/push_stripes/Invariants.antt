@@ -1,7 +1,7 @@
 use Rattle.std.proofs.Common.{◌≡◌, ◌++◌, string_bytes}
 use Rattle.std.specs.Prelude.{flat_map}
 use Rattle.lrc_book.specs.Books.{state_of}
-use Rattle.lrc_show.specs.Shown.{shown_stripe}
+use Rattle.lrc_show.specs.Listed.{shown_stripe}
 use Rattle.lrc_book.proofs.StripeLemmas.{stripes_below}
 use Rattle.lrc_show.proofs.stripes.push_stripes.Given as goal
 

@@ -1,7 +1,7 @@
 use Rattle.std.proofs.Common.{◌≡◌, ◌+◌, ◌++◌, List, [], ◌∷◌, take, string_bytes, ap, ◌∙◌}
 use Rattle.std.proofs.lemmas.List.{take_all}
 use Rattle.lrc_code.specs.declared.numbers.Fragment.{Fragment}
-use Rattle.lrc_show.specs.Shown.{fragments_field}
+use Rattle.lrc_show.specs.Listed.{fragments_field}
 use Rattle.lrc_show.proofs.FieldLemmas.{number-added, not-start, item-more}
 use Rattle.lrc_show.proofs.words.push_fragments.Goals as goal
 

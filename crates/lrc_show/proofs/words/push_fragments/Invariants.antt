@@ -1,5 +1,5 @@
 use Rattle.std.proofs.Common.{◌≡◌, ◌++◌, take, string_bytes}
-use Rattle.lrc_show.specs.Shown.{fragments_field}
+use Rattle.lrc_show.specs.Listed.{fragments_field}
 use Rattle.lrc_show.proofs.FieldLemmas.{is_start}
 use Rattle.lrc_show.proofs.words.push_fragments.Given as goal
 

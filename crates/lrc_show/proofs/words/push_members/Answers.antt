@@ -3,7 +3,7 @@ use Rattle.std.proofs.lemmas.List.{take_all}
 use Rattle.lrc_code.specs.declared.numbers.Fragment.{Fragment}
 use Rattle.lrc_code.specs.Codes.{all_fragments}
 use Rattle.lrc_code.specs.Losses.{bits_set}
-use Rattle.lrc_show.specs.Shown.{fragments_field}
+use Rattle.lrc_show.specs.Listed.{fragments_field}
 use Rattle.lrc_show.proofs.FieldLemmas.{is_start, own_members, member-more, member-passed, members-all, number-added, not-start}
 use Rattle.lrc_show.proofs.words.push_members.Goals as goal
 use Rattle.lrc_show.proofs.words.push_members.Goals.{then-is_member+in_ok-push_number, else-is_member}

@@ -1,7 +1,7 @@
 use Rattle.std.proofs.Common.{◌≡◌, ◌++◌, take, string_bytes}
 use Rattle.lrc_code.specs.Codes.{all_fragments}
 use Rattle.lrc_code.specs.Losses.{bits_set}
-use Rattle.lrc_show.specs.Shown.{fragments_field}
+use Rattle.lrc_show.specs.Listed.{fragments_field}
 use Rattle.lrc_show.proofs.FieldLemmas.{is_start, own_members}
 use Rattle.lrc_show.proofs.words.push_members.Given as goal
 

@@ -1,7 +1,7 @@
 use Rattle.std.proofs.Common.{◌++◌, List, codes, string_bytes, ap, ◌∙◌}
 use Rattle.lrc_code.specs.declared.numbers.Fragment.{Fragment}
 use Rattle.lrc_book.specs.Books.{state_of}
-use Rattle.lrc_show.specs.Shown.{fragments_field, reads_field}
+use Rattle.lrc_show.specs.Listed.{fragments_field, reads_field}
 use Rattle.lrc_show.proofs.WorkLemmas.{work-told}
 use Rattle.lrc_show.proofs.work.push_fragment_work.Goals as goal
 

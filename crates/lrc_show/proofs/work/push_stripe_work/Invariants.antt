@@ -1,6 +1,6 @@
 use Rattle.std.proofs.Common.{◌≡◌, ◌++◌, take, string_bytes}
 use Rattle.std.specs.Prelude.{flat_map}
-use Rattle.lrc_code.specs.Codes.{fragments, all_fragments}
+use Rattle.lrc_code.specs.Codes.{all_fragments}
 use Rattle.lrc_book.specs.Books.{state_of}
 use Rattle.lrc_show.proofs.WorkLemmas.{own_row}
 use Rattle.lrc_show.proofs.work.push_stripe_work.Given as goal

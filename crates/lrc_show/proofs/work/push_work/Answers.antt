@@ -1,7 +1,7 @@
 use Rattle.std.proofs.Common.{rules, ◌≡◌, codes, string_bytes}
 use Rattle.lrc_rules.specs.Urgency.{work}
 use Rattle.lrc_book.specs.Books.{state_of}
-use Rattle.lrc_show.specs.Shown.{work_rows}
+use Rattle.lrc_show.specs.Listed.{work_rows}
 use Rattle.lrc_show.proofs.ListLemmas.{table-all}
 use Rattle.lrc_show.proofs.WorkLemmas.{stripe-more}
 use Rattle.lrc_show.proofs.work.push_work.Goals as goal
