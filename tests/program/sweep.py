@@ -128,7 +128,7 @@ def fault(number, written=b"", told=b""):
 def untold(words, usual, taken, error):
     """What may come of a run that usually ends so, where a write to standard error fails after these bytes."""
     status, output, told = usual
-    if status == 3 or told.startswith(b"usage:"):
+    if status == 3 or b"\nusage:" in told:
         # (std may try again to write a line that was interrupted)
         return [(status, output, taken)] + [usual] * (error == errno.EINTR)
     if words == "check":

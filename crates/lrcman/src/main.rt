@@ -6,10 +6,12 @@ ghost use Rattle.lrc_outputs.specs.declared.status.Status.TheVariants as status;
 ghost use Rattle.lrc_streams.specs.declared.streams.RunFault.{RunFault};
 ghost use Rattle.lrcman.specs.declared.stop.Stop.TheVariants as stop;
 
+mod hints;
 mod named;
 mod stop;
 mod views;
 
+use crate::hints::{Wrong, wrong_in};
 use crate::named::parse_named;
 use crate::stop::Stop;
 use crate::views::parse_view;
@@ -144,9 +146,45 @@ fn view_in(matches: &ArgMatches<'_>) -> Result<View, Stop> {
 
 /// Does what the command line asks for; scripts run on these threads.
 fn perform<T: Threads + Wait + Sync>(rt: &HostRuntime, threads: &T) -> Result<Status, Stop> {
-    let words = env::args(rt)?.collect::<Vec<String>>(rt.alloc())?;
-    let request = parse_request(rt.alloc(), words.as_slice())?;
+    let words = words_of(rt)?;
+    let request = match parse_request(rt.alloc(), words.as_slice()) {
+        Ok(request) => request,
+        Err(Stop::Usage) => {
+            tell_wrong_words(rt, words.as_slice())?;
+            return Err(Stop::Usage);
+        }
+        Err(stop) => return Err(stop),
+    };
     Ok(serve(rt, threads, &request)?)
+}
+
+/// The words of the command line, with the name of the program.
+fn words_of(rt: &HostRuntime) -> Result<Vec<String>, Stop> {
+    let words = collected(rt);
+    if let Err(Stop::Usage) = &words {
+        tell(rt, Wrong::Bytes);
+    }
+    words
+}
+
+fn collected(rt: &HostRuntime) -> Result<Vec<String>, Stop> {
+    Ok(env::args(rt)?.collect::<Vec<String>>(rt.alloc())?)
+}
+
+/// Tells what is wrong with the words of a command line, and the usage. A word `--` is passed over.
+fn tell_wrong_words(rt: &HostRuntime, words: &[String]) -> Result<(), AllocError> {
+    let mut texts = Vec::new(rt.alloc());
+    for word in words.iter().skip(1) {
+        if word.as_str() != "--" {
+            texts.push(word.as_str())?;
+        }
+    }
+    tell(rt, wrong_in(texts.as_slice()));
+    Ok(())
+}
+
+fn tell(rt: &HostRuntime, wrong: Wrong<'_>) {
+    let _ = eprintln!(rt; "lrcman: {wrong}\n{}", Stop::Usage);
 }
 
 fn serve<T: Threads + Wait + Sync>(
@@ -222,8 +260,8 @@ fn exit_status(ended: &Result<Status, Stop>) -> u8
 
 fn main(rt: HostRuntime) -> ExitCode {
     let ended = perform(&rt, &rt);
-    if let Err(stop) = &ended {
-        let _ = eprintln!(&rt; "{stop}");
+    if let Err(Stop::Fault(fault)) = &ended {
+        let _ = eprintln!(&rt; "lrcman: {fault}");
     }
     ExitCode::from(exit_status(&ended))
 }

@@ -7,7 +7,7 @@ use std::alloc::Global;
 
 /// What a number on the command line is of.
 #[derive(Clone, Copy)]
-enum Kind {
+pub(crate) enum Kind {
     Node,
     Fault,
     Upgrade,
@@ -38,7 +38,7 @@ pub(crate) fn parse_named(alloc: Global, words: &[&str]) -> Result<Vec<Named>, S
 }
 
 /// What the numbers behind the word are of.
-fn keyword(word: &str) -> Option<Kind> {
+pub(crate) fn keyword(word: &str) -> Option<Kind> {
     match word {
         "fault" => Some(Kind::Fault),
         "upgrade" => Some(Kind::Upgrade),
@@ -59,13 +59,21 @@ fn parse_one(kind: Kind, word: &str) -> Result<Named, Stop> {
     }
 }
 
+/// Whether a node, or a domain, can have the number.
+pub(crate) fn in_range(kind: Kind, number: u16) -> bool {
+    match kind {
+        Kind::Node => true,
+        Kind::Fault | Kind::Upgrade => domain(number).is_ok(),
+    }
+}
+
 /// The number of a domain, from 0 to 255.
 fn domain(number: u16) -> Result<u8, Stop> {
     u8::try_from(number).map_err(|_| Stop::Usage)
 }
 
 /// Reads a number from 0 to 65,535, without sign and without leading zeros.
-fn parse_number(word: &str) -> Option<u16> {
+pub(crate) fn parse_number(word: &str) -> Option<u16> {
     if word.starts_with('+') || (word.starts_with('0') && word != "0") {
         return None;
     }

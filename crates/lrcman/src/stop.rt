@@ -18,7 +18,7 @@ pub(crate) enum Stop {
   lrcman resume < SEQUEL            run a script from an image on
   lrcman image < SEQUEL             print the image after it
   lrcman show WHAT < SEQUEL         print a table of the state after it: status, health, stripes, fragments, nodes, leases, work,
-                                    domains fault or domains upgrade
+                                    capacity, domains fault or domains upgrade
   lrcman may-stop WHO.. < SEQUEL    may these nodes stop at once? WHO is NODE.., fault F.. or upgrade U.., or several of them
   lrcman may-lose WHO.. < SEQUEL    the same if they were lost
   lrcman recover MASK               can these losses of a wide stripe be recovered? (four hexadecimal digits)
