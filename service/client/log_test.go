@@ -9,6 +9,7 @@ import (
 	"net/http/httptest"
 	"reflect"
 	"strings"
+	"sync"
 	"testing"
 	"time"
 )
@@ -21,20 +22,39 @@ func entryLine(n int) string {
 // A script is what a member of a test answers, request by request. Where it ends with an exclamation mark, the connection is cut
 // then; with a tilde, nothing more comes.
 type script struct {
+	mu      sync.Mutex // of what follows: a request that the client gave up may still be answered
 	answers []string
 	asked   []string
 	end     chan struct{}
 }
 
-func (s *script) ServeHTTP(w http.ResponseWriter, r *http.Request) {
+// next notes a request, and returns what it is answered.
+func (s *script) next(r *http.Request) (text string, isThere bool) {
+	s.mu.Lock()
+	defer s.mu.Unlock()
 	s.asked = append(s.asked, r.URL.RawQuery)
 	if len(s.answers) == 0 {
+		return "", false
+	}
+	text = s.answers[0]
+	s.answers = s.answers[1:]
+	return text, true
+}
+
+// requests are the parameters of those that came.
+func (s *script) requests() []string {
+	s.mu.Lock()
+	defer s.mu.Unlock()
+	return append([]string(nil), s.asked...)
+}
+
+func (s *script) ServeHTTP(w http.ResponseWriter, r *http.Request) {
+	text, isThere := s.next(r)
+	if !isThere {
 		w.WriteHeader(503)
 		io.WriteString(w, `{"status":503,"error":"there is no leader"}`)
 		return
 	}
-	text := s.answers[0]
-	s.answers = s.answers[1:]
 	if strings.HasPrefix(text, `{"status":410`) || strings.HasPrefix(text, `{"status":404`) {
 		var status int
 		fmt.Sscanf(text, `{"status":%d`, &status)
@@ -90,10 +110,10 @@ func TestALogGoesOnAtAnotherMember(t *testing.T) {
 	c := play(t, Config{Silence: 200 * time.Millisecond}, one, two)
 	numbers, err := read(c, 3, 6)
 	if err != nil || !reflect.DeepEqual(numbers, []uint64{4, 5, 6, 7, 8, 9}) {
-		t.Errorf("%v %v; asked %v and %v", numbers, err, one.asked, two.asked)
+		t.Errorf("%v %v; asked %v and %v", numbers, err, one.requests(), two.requests())
 	}
-	if one.asked[0] != "follow=1&from=3" || two.asked[0] != "follow=1&from=5" {
-		t.Errorf("asked %v and %v", one.asked, two.asked)
+	if one.requests()[0] != "follow=1&from=3" || two.requests()[0] != "follow=1&from=5" {
+		t.Errorf("asked %v and %v", one.requests(), two.requests())
 	}
 }
 
@@ -117,8 +137,8 @@ func TestEntriesThatAreForgotten(t *testing.T) {
 		t.Errorf("all have forgotten: %v", err)
 	}
 	one, two = &script{answers: []string{gone(7)}}, &script{}
-	if _, err := read(play(t, Config{}, one, two), 3, 1); !errors.As(err, &forgotten) || forgotten.First != 7 || len(one.asked) != 1 {
-		t.Errorf("one has forgotten and the other does not answer: %v, asked %v", err, one.asked)
+	if _, err := read(play(t, Config{}, one, two), 3, 1); !errors.As(err, &forgotten) || forgotten.First != 7 || len(one.requests()) != 1 {
+		t.Errorf("one has forgotten and the other does not answer: %v, asked %v", err, one.requests())
 	}
 }
 
@@ -152,7 +172,7 @@ func TestALogIsReadToItsEnd(t *testing.T) {
 		numbers = append(numbers, entry.N)
 		return nil
 	})
-	if err != nil || !reflect.DeepEqual(numbers, []uint64{1, 2, 3}) || two.asked[0] != "from=1" {
-		t.Errorf("%v %v, asked %v", numbers, err, two.asked)
+	if err != nil || !reflect.DeepEqual(numbers, []uint64{1, 2, 3}) || two.requests()[0] != "from=1" {
+		t.Errorf("%v %v, asked %v", numbers, err, two.requests())
 	}
 }

@@ -7,6 +7,7 @@ import shutil
 import signal
 import socket
 import subprocess
+import tempfile
 import time
 
 
@@ -15,6 +16,11 @@ NO_RESERVE = ["--disk-reserve", "0"]
 
 # The system gives clients ports from 32768 on, so none of them takes the port of a member that is away.
 PORTS = iter(random.sample(range(10000, 20000), 10000))
+
+
+def place(room):
+    """A folder for one test, which goes when the test ends: the log of each member takes 64 MB and more of the disk."""
+    return tempfile.TemporaryDirectory(dir=room)
 
 
 def free_port():

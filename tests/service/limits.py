@@ -14,7 +14,7 @@ import threading
 import time
 
 from tests import harness
-from tests.service.cluster import Asker, Group, Member, free_port
+from tests.service.cluster import Asker, Group, Member, free_port, place
 from tests.service.one_member import wait_ready
 
 CONNECTIONS = 5000
@@ -584,9 +584,6 @@ def check_audit(count, audit):
 
 
 def test_limits(count, program, room, nodes):
-    test_connections(count, program, room, nodes)
-    test_silent_handshakes(count, program, room, nodes)
-    test_bodies(count, program, room, nodes)
-    test_fuzz(count, program, room, nodes)
-    test_browser(count, program, room, nodes)
-    test_rights(count, program, room, nodes)
+    for test in (test_connections, test_silent_handshakes, test_bodies, test_fuzz, test_browser, test_rights):
+        with place(room) as folder:
+            test(count, program, folder, nodes)

@@ -7,7 +7,7 @@ import subprocess
 import time
 
 from tests import harness
-from tests.service.cluster import Asker, Group, Member
+from tests.service.cluster import Asker, Group, Member, place
 from tests.service.judge import image_of
 from tests.service.one_member import wait_ready
 from tests.service.work import Run, Work, asked_for, entries_of, filled, make_books
@@ -373,9 +373,9 @@ def test_recipes(count, program, room, topology):
 
 def test_members(count, program, room, nodes):
     topology = harness.topology_of(nodes)
-    test_alone(count, program, room, topology)
-    test_nowhere(count, program, room, topology)
-    test_stranding(count, program, room, topology)
-    test_backup(count, program, room, nodes, topology)
-    test_recover(count, program, room, nodes, topology)
-    test_recipes(count, program, room, topology)
+    for test in (test_alone, test_nowhere, test_stranding, test_recipes):
+        with place(room) as folder:
+            test(count, program, folder, topology)
+    for test in (test_backup, test_recover):
+        with place(room) as folder:
+            test(count, program, folder, nodes, topology)

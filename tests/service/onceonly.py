@@ -6,7 +6,7 @@ import time
 
 from tests import harness
 from tests.model.rules import Node
-from tests.service.cluster import Asker, Group, Member
+from tests.service.cluster import Asker, Group, Member, place
 from tests.service.network import Network
 from tests.service.one_member import wait_ready
 from tests.service.work import asked_for
@@ -305,5 +305,6 @@ def test_once_only(count, program, faulty, room, nodes):
     topology = harness.topology_of(nodes)
     for test in (test_forgotten_key, test_creation_around_removal, test_lost_words, test_without_quorum, test_ticks, test_comparison):
         begun = time.monotonic()
-        test(count, faulty if test is test_comparison else program, f"{room}/{test.__name__}", topology)
+        with place(room) as folder:
+            test(count, faulty if test is test_comparison else program, f"{folder}/{test.__name__}", topology)
         print(f"{test.__name__[5:].replace('_', ' ')}: {time.monotonic() - begun:.0f} s", flush=True)

@@ -4,7 +4,7 @@ import time
 
 from tests import harness
 from tests.service.clients import Told
-from tests.service.cluster import Asker, Group
+from tests.service.cluster import Asker, Group, place
 from tests.service.network import CLIENT, Network, ways_between
 from tests.service.work import BOOKS, LEAST, Run, Work, make_books
 
@@ -144,5 +144,6 @@ def test_network(count, program, faulty, room, nodes, seconds):
     print(f"a leader that is cut off, seed {seed}: {run}", flush=True)
     count.add(max(run.told + run.looks + run.entries + run.acts["asked"] - len(run.faults), 0), run.faults)
     for fault, words in FAULTS.items():
-        run = leader_cut_off(faulty, f"{room}/apart-{fault}", nodes, seed, {"LRCMAND_FAULT": fault})
+        with place(room) as folder:
+            run = leader_cut_off(faulty, f"{folder}/apart-{fault}", nodes, seed, {"LRCMAND_FAULT": fault})
         count.check(f"a program that is {fault} is found: {run.faults[:3]}", any(words in it for it in run.faults))

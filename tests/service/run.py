@@ -73,6 +73,7 @@ from tests.service.bytes_and_looks import test_bytes, test_calls_beside_looks
 from tests.service.chaos import chaos
 from tests.service.client_py import test_clients, test_examples, test_looks, test_python_client, test_tls
 from tests.service.clocks import NoClock, build_jumping, hours_away
+from tests.service.cluster import place
 from tests.service.crash_points import test_crash_points
 from tests.service.damaged import test_damage, test_other_folders
 from tests.service.full_disk import test_full_disk
@@ -97,11 +98,6 @@ SECONDS, LONG, MOST_RUNS = 10, 120, 10
 NODES = {number: Node(number % 12, number % 10, 6) for number in range(24)}
 
 
-def place(room):
-    """A folder for one test, which goes when the test ends: so the part holds the files of one test at a time."""
-    return tempfile.TemporaryDirectory(dir=room)
-
-
 def left_out(what, why):
     print(f"left out: {what}: {why}", flush=True)
 
@@ -109,7 +105,7 @@ def left_out(what, why):
 def go(library, words):
     """Runs a line of shell with what Go needs."""
     line = f'. "{SERVICE}/go-env" && go_env "{library}" && {words}'
-    return subprocess.run(["bash", "-c", line], capture_output=True, text=True, cwd=SERVICE, timeout=900)
+    return subprocess.run(["bash", "-c", line], capture_output=True, text=True, cwd=SERVICE, timeout=3600)
 
 
 def what_go_lacks(library):
@@ -223,9 +219,9 @@ def test_measure(count, library, room):
 
 def test_both_clients(count, program, library, room):
     test_python_client(count)
-    test_looks(count, program, room)
-    test_tls(count, program, room)
-    test_examples(count, program, library, room)
+    for test, words in ((test_looks, ()), (test_tls, ()), (test_examples, (library,))):
+        with place(room) as folder:
+            test(count, program, *words, folder)
     expect_quiet(count, "caller", go(library, f"go build -o {room}/caller lrcman/service/internal/caller"))
     test_clients(count, program, f"{room}/caller", room, NODES)
 

@@ -84,10 +84,26 @@ func (s *service) ServeHTTP(w http.ResponseWriter, r *http.Request) {
 	}
 }
 
-func (s *service) requests() int {
+// requested are all requests so far. (One that ctl gave up may still be answered)
+func (s *service) requested() []string {
 	s.mu.Lock()
 	defer s.mu.Unlock()
-	return len(s.asked)
+	return append([]string(nil), s.asked...)
+}
+
+func (s *service) requests() int { return len(s.requested()) }
+
+// made are the bodies of the calls so far.
+func (s *service) made() []map[string]interface{} {
+	s.mu.Lock()
+	defer s.mu.Unlock()
+	return append([]map[string]interface{}(nil), s.calls...)
+}
+
+func (s *service) keyCount() int {
+	s.mu.Lock()
+	defer s.mu.Unlock()
+	return len(s.keys)
 }
 
 func (s *service) call(w http.ResponseWriter, r *http.Request) {
@@ -196,8 +212,8 @@ func TestEachCommandHasItsStatusAndWords(t *testing.T) {
 				t.Errorf("%s printed %s and not %s", it.words, out, part)
 			}
 		}
-		if it.status == 2 && len(s.asked) > 0 {
-			t.Errorf("%s asked %v", it.words, s.asked)
+		if it.status == 2 && len(s.requested()) > 0 {
+			t.Errorf("%s asked %v", it.words, s.requested())
 		}
 	}
 }
@@ -209,8 +225,8 @@ func TestOkToStopAsksForAllAtOnceAndForNow(t *testing.T) {
 	if status != 0 || !strings.HasPrefix(out, "ok: no stripe is harmed, and 1 would not be whole (after entry 17)") {
 		t.Errorf("status %d, %s, %s", status, out, err)
 	}
-	if want := "GET /books/p0/may-stop?fault=5&fault=6&node=3&node=7&now=1&upgrade=0"; len(s.asked) != 1 || s.asked[0] != want {
-		t.Errorf("asked %v and not %s", s.asked, want)
+	if want := "GET /books/p0/may-stop?fault=5&fault=6&node=3&node=7&now=1&upgrade=0"; len(s.requested()) != 1 || s.requested()[0] != want {
+		t.Errorf("asked %v and not %s", s.requested(), want)
 	}
 }
 
@@ -221,13 +237,13 @@ func TestACallIsMadeOnceHoweverOftenItIsAsked(t *testing.T) {
 	if status != 0 || out != "18 ticked 1 0\n" {
 		t.Fatalf("status %d, %s, %s", status, out, err)
 	}
-	if len(s.calls) != 3 || len(s.keys) != 1 || len(fmt.Sprint(s.calls[0]["key"])) != 32 {
-		t.Errorf("calls %v", s.calls)
+	if len(s.made()) != 3 || s.keyCount() != 1 || len(fmt.Sprint(s.made()[0]["key"])) != 32 {
+		t.Errorf("calls %v", s.made())
 	}
-	if s.calls[0]["worker"] != "w7" || s.calls[0]["session"] != 3.0 || s.calls[0]["command"] != "tick" {
-		t.Errorf("call %v", s.calls[0])
+	if s.made()[0]["worker"] != "w7" || s.made()[0]["session"] != 3.0 || s.made()[0]["command"] != "tick" {
+		t.Errorf("call %v", s.made()[0])
 	}
-	if ctl(t, "call", "p0", "tick", "--server", address); len(s.keys) != 2 {
+	if ctl(t, "call", "p0", "tick", "--server", address); s.keyCount() != 2 {
 		t.Error("two calls had one key")
 	}
 }
@@ -236,10 +252,10 @@ func TestAKeyIsReportedWithAnUnknownOutcome(t *testing.T) {
 	s, address := newService(t)
 	s.broken = 1000
 	status, _, err := ctl(t, "call", "p0", "tick", "--server", address, "--timeout", "700ms")
-	if status != 1 || !strings.Contains(err, "the call may have been made: retry with --call-key "+fmt.Sprint(s.calls[0]["key"])) {
+	if status != 1 || !strings.Contains(err, "the call may have been made: retry with --call-key "+fmt.Sprint(s.made()[0]["key"])) {
 		t.Errorf("status %d, %s", status, err)
 	}
-	if since := fmt.Sprintf("--call-since %v", s.calls[0]["since"]); !strings.Contains(err, since) || since != "--call-since 89" {
+	if since := fmt.Sprintf("--call-since %v", s.made()[0]["since"]); !strings.Contains(err, since) || since != "--call-since 89" {
 		t.Errorf("the error lacks %s: %s", since, err)
 	}
 	status, _, err = ctl(t, "call", "p0", "tick", "--server", "127.0.0.1:9", "--timeout", "100ms")
@@ -247,8 +263,8 @@ func TestAKeyIsReportedWithAnUnknownOutcome(t *testing.T) {
 		t.Errorf("of one who does not run: status %d, %s", status, err)
 	}
 	status, _, err = ctl(t, "call", "p0", "tick", "--server", address, "--call-key", "mine", "--call-since", "70", "--timeout", "100ms")
-	if last := s.calls[len(s.calls)-1]; status != 1 || last["key"] != "mine" || last["since"] != 70.0 {
-		t.Errorf("status %d, %s, %v", status, err, s.calls)
+	if last := s.made()[len(s.made())-1]; status != 1 || last["key"] != "mine" || last["since"] != 70.0 {
+		t.Errorf("status %d, %s, %v", status, err, s.made())
 	}
 }
 
@@ -284,7 +300,7 @@ func TestAMemberThatHangsIsPassedOver(t *testing.T) {
 	defer hanging.Close()
 	defer close(end)
 	s, address := newService(t)
-	if status, out, err := ctl(t, "call", "p0", "tick", "--server", hanging.URL+","+address); status != 0 || out != "18 ticked 1 0\n" || len(s.calls) != 1 {
+	if status, out, err := ctl(t, "call", "p0", "tick", "--server", hanging.URL+","+address); status != 0 || out != "18 ticked 1 0\n" || len(s.made()) != 1 {
 		t.Errorf("status %d, %s, %s", status, out, err)
 	}
 	status, _, err := ctl(t, "call", "p0", "tick", "--server", hanging.URL, "--timeout", "1500ms")
@@ -404,8 +420,8 @@ func TestWatchGoesOnBehindTheLastEntry(t *testing.T) {
 	if status != 0 || out.String() != want {
 		t.Errorf("status %d, %s, %s", status, out.String(), err.String())
 	}
-	if len(s.asked) < 3 || s.asked[1] != "GET /books/p0/log?follow=1&from=17" || s.asked[2] != "GET /books/p0/log?follow=1&from=19" {
-		t.Errorf("asked %v", s.asked)
+	if len(s.requested()) < 3 || s.requested()[1] != "GET /books/p0/log?follow=1&from=17" || s.requested()[2] != "GET /books/p0/log?follow=1&from=19" {
+		t.Errorf("asked %v", s.requested())
 	}
 }
 

@@ -299,7 +299,7 @@ func TestAFewMebibytesOfTheLogStayInMemory(t *testing.T) {
 	cfg, _ := configOf(t, t.TempDir(), alone, alone)
 	cfg.SnapshotBytes = 20 << 20
 	n, machine := begin(t, cfg)
-	machine.forgets = true
+	machine.forget()
 	text := strings.Repeat("x", 1<<20)
 	for i := 0; i < 45; i++ {
 		propose(t, n, fmt.Sprint("note ", i, text))

@@ -54,6 +54,13 @@ func (l *list) waitBefore(wait func(payload string)) {
 	l.beforeApply = wait
 }
 
+// forget makes it keep no entries from now on.
+func (l *list) forget() {
+	l.mu.Lock()
+	defer l.mu.Unlock()
+	l.forgets = true
+}
+
 func (l *list) waits() func(payload string) {
 	l.mu.Lock()
 	defer l.mu.Unlock()
