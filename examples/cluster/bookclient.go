@@ -66,9 +66,9 @@ func (b *Book) Change(command client.Command) error {
 
 // Next asks for the most urgent lease; nil: there is none. It peeks first, so that idle workers do not fill the history.
 func (b *Book) Next(worker string) (*client.Grant, error) {
-	reply, _, err := b.client.Peek(context.Background(), b.name, client.Next())
+	reply, _, err := b.client.Peek(context.Background(), b.name, "next")
 	if err == nil && reply.Kind == client.Granted {
-		reply, err = b.Call(worker, client.Next())
+		reply, err = b.Call(worker, "next")
 	}
 	if err != nil {
 		return nil, err

@@ -115,7 +115,7 @@ func (g *Gateway) dropOthers() error {
 	stripes, err := g.book.Stripes()
 	for _, stripe := range stripes {
 		if err == nil && !isKnown[stripe.Number] {
-			_, err = g.book.Call("", client.Drop(uint16(stripe.Number)))
+			_, err = g.book.Call("", client.Commandf("drop %d", stripe.Number))
 		}
 	}
 	return err
@@ -148,7 +148,7 @@ func (g *Gateway) putStripe(part []byte) (int, error) {
 		if err != nil {
 			return 0, err
 		}
-		reply, err := g.book.Call("", client.Place(uint16(stripe)))
+		reply, err := g.book.Call("", client.Commandf("place %d", stripe))
 		switch {
 		case err != nil:
 			return 0, err
@@ -156,7 +156,7 @@ func (g *Gateway) putStripe(part []byte) (int, error) {
 			if g.writeAll(stripe, reply.Seats, fragments) {
 				return stripe, nil
 			}
-			if _, err := g.book.Call("", client.Drop(uint16(stripe))); err != nil {
+			if _, err := g.book.Call("", client.Commandf("drop %d", stripe)); err != nil {
 				return 0, err
 			}
 		case reply.Refusal != noLawfulNode:

@@ -45,7 +45,7 @@ func (b *Book) NextOf(worker string, wanted choice) (*client.Grant, error) {
 		if peeks++; peeks > mostPeeks {
 			break
 		}
-		command := client.Lease(row.Stripe, row.Fragment)
+		command := client.Commandf("lease %d %d", row.Stripe, row.Fragment)
 		reply, _, err := b.client.Peek(ctx, b.name, command)
 		if err != nil {
 			return nil, err

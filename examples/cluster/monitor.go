@@ -71,11 +71,11 @@ func (m *monitor) decide(row client.Node, answers int) error {
 		if err := m.nodes.Empty(node); err != nil {
 			return err
 		}
-		return m.tell(client.Join(row.Number))
+		return m.tell(client.Commandf("join %d", row.Number))
 	case row.Down && answers >= answersToUp:
-		return m.tell(client.Up(row.Number))
+		return m.tell(client.Commandf("up %d", row.Number))
 	case !isGone && !row.Down && answers <= -missesToDown:
-		return m.tell(client.Down(row.Number))
+		return m.tell(client.Commandf("down %d", row.Number))
 	case !isGone && row.Down && answers <= -missesToFail:
 		return m.fail(node)
 	}
@@ -88,7 +88,7 @@ func (m *monitor) fail(node int) error {
 	if err != nil || !isSafe {
 		return err
 	}
-	return m.tell(client.Fail(uint16(node)))
+	return m.tell(client.Commandf("fail %d", node))
 }
 
 func (m *monitor) tell(command client.Command) error {

@@ -234,7 +234,7 @@ func TestACommandGoesOnByItsKey(t *testing.T) {
 	if err != nil {
 		t.Fatal(err)
 	}
-	reply, err := (&Book{asked, "p0"}).Call("w", client.Next())
+	reply, err := (&Book{asked, "p0"}).Call("w", "next")
 	if err != nil || reply.Kind != client.Idle || len(fake.keys) != 61 {
 		t.Errorf("%+v %v, %d tries", reply, err, len(fake.keys))
 	}

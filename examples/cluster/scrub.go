@@ -9,11 +9,11 @@ import (
 // mend replaces a damaged fragment of a node that is well, as docs/CODING.md has it: it is leased as if its node were to be
 // emptied, and rebuilt without it.
 func mend(book *Book, nodes *Nodes, stripe, fragment, node int) (result, error) {
-	if err := book.Change(client.Drain(uint16(node))); err != nil {
+	if err := book.Change(client.Commandf("drain %d", node)); err != nil {
 		return result{}, err
 	}
-	reply, err := book.Call("scrub", client.Lease(uint16(stripe), uint8(fragment)))
-	if err := book.Change(client.Undrain(uint16(node))); err != nil {
+	reply, err := book.Call("scrub", client.Commandf("lease %d %d", stripe, fragment))
+	if err := book.Change(client.Commandf("undrain %d", node)); err != nil {
 		return result{}, err
 	}
 	if err != nil {

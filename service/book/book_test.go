@@ -4,6 +4,7 @@ import (
 	"encoding/json"
 	"errors"
 	"fmt"
+	"math/rand"
 	"reflect"
 	"strings"
 	"testing"
@@ -11,18 +12,23 @@ import (
 
 // The causes of bad lines, as docs/FORMATS.md has them.
 func TestCommandsAreReadAsLinesOfAScript(t *testing.T) {
+	const none = "this is a comment, or empty"
+	const word, count, noNumber, outOfRange = "the first word is not a command", "the command takes another number of words",
+		"an argument is not a number", "a number is out of its range"
 	for line, want := range map[string]string{
-		"": "not a command", " place 1": "not a command", "\r": "not a command", "Place 1": "not a command", "place06 1": "not a command",
-		"place12 1": "not a command", "place": "another number of words", "up 0 1": "another number of words", "next 1": "another number of words",
-		"tick 3": "another number of words", "place 6 1": "another number of words", "done 1 3": "another number of words",
-		"lease 1 3 1": "another number of words", "place  1": "another number of words", "place 1 ": "another number of words",
-		"next ": "another number of words", "place ": "the stripe is not a number", "place +1": "the stripe is not a number",
-		"place 01": "the stripe is not a number", "place 0x1": "the stripe is not a number", "place 1.0": "the stripe is not a number",
-		"place 1\r": "the stripe is not a number", "lease x 16": "the stripe is not a number", "place 4096": "the stripe is out of its range",
-		"place6 4096": "the stripe is out of its range", "place 99999999999999999999999": "the stripe is out of its range",
-		"lease 1 16": "the fragment is out of its range", "lease 4096 x": "the stripe is out of its range",
-		"done 1 3 4294967296": "the epoch is out of its range", "drain 65536": "the node is out of its range",
-		"upgraded 256": "the domain is out of its range", "tick\n": "not a command", "place 1\nplace 2": "another number of words",
+		"": none, "# place 1": none, "#": none, strings.Repeat("x", 1025): "the line has more than 1024 bytes",
+		"place " + strings.Repeat("9", 1018): outOfRange, "place 1\x00": noNumber, "\xff": word,
+		" place 1": word, "\r": word, "Place 1": word, "place06 1": word,
+		"place12 1": word, "place": count, "up 0 1": count, "next 1": count,
+		"tick 3": count, "place 6 1": count, "done 1 3": count,
+		"lease 1 3 1": count, "place  1": count, "place 1 ": count,
+		"next ": count, "place ": noNumber, "place +1": noNumber,
+		"place 01": noNumber, "place 0x1": noNumber, "place 1.0": noNumber,
+		"place 1\r": noNumber, "lease x 16": noNumber, "place 4096": outOfRange,
+		"place6 4096": outOfRange, "place 99999999999999999999999": outOfRange,
+		"lease 1 16": outOfRange, "lease 4096 x": outOfRange,
+		"done 1 3 4294967296": outOfRange, "drain 65536": outOfRange,
+		"upgraded 256": outOfRange, "tick\n": word, "place 1\nplace 2": count,
 	} {
 		if _, err := Parse(line); err == nil || !strings.Contains(err.Error(), want) {
 			t.Errorf("%q: %v, and not %q", line, err, want)
@@ -56,8 +62,10 @@ func TestCommandsAreWrittenAsTheyWereRead(t *testing.T) {
 			t.Errorf("%q: %+v %v %v", line, command, &command, err)
 		}
 	}
-	if len(forms) != 18 {
-		t.Errorf("there are %d commands", len(forms))
+	for kind, want := range map[Kind]string{Upgraded: "upgraded", Place6: "place6", 0: "command", 19: "command", 255: "command"} {
+		if word := (Command{Kind: kind}).Word(); word != want {
+			t.Errorf("the word of kind %d is %q", kind, word)
+		}
 	}
 }
 
@@ -209,39 +217,41 @@ func TestFaultsAreWordsOfThePages(t *testing.T) {
 	}
 }
 
-func TestTablesAreOfTheWholeBook(t *testing.T) {
-	b := open(t, "place 1", "place6 2", "fail 1", "next", "drain 2", "down 3", "upgrade 4")
-	for _, view := range Views {
-		snapshot, err := b.Show(view)
-		if err != nil {
-			t.Fatal(view, err)
-		}
-		table := snapshot()
-		var rows []map[string]interface{}
-		text, err := json.Marshal(table)
-		if err == nil {
-			err = json.Unmarshal(text, &rows)
-		}
-		if err != nil || len(rows) != len(table.Rows) || len(rows) == 0 {
-			t.Fatal(view, err, string(text))
-		}
-		lines := strings.Split(string(table.CSV()), "\n")
-		if len(lines) != len(rows)+2 || lines[0] != strings.Join(table.Columns, ",") {
-			t.Error(view, lines)
-		}
-		for i, row := range table.Rows {
-			if len(row) != len(table.Columns) || len(rows[i]) != len(row) || len(strings.Split(lines[i+1], ",")) != len(row) {
-				t.Error(view, lines[i+1])
+// drawn is a command whose numbers are often there.
+func drawn(r *rand.Rand) Command {
+	kinds := []Kind{Place, Place6, Drop, Lease, Next, Next, Done, Abandon, Revoke, Fail, Down, Up, Drain, Undrain, Retire, Join, Upgrade,
+		Upgraded, Tick, Lease, Place}
+	return Command{Kind: kinds[r.Intn(len(kinds))], Stripe: uint16(r.Intn(5)), Fragment: uint8(r.Intn(16)), Epoch: uint32(1 + r.Intn(3)),
+		Node: uint16(r.Intn(21)), Domain: uint8(r.Intn(11))}
+}
+
+// The line of a reply is written here: it is the library's, which has it while the entry is in the history. Drawn calls reach every
+// kind of reply and of repair, and each refusal.
+func TestTheLineOfAReplyIsTheLibrarys(t *testing.T) {
+	met := map[string]bool{}
+	for seed := int64(1); seed <= 20; seed++ {
+		r, b := rand.New(rand.NewSource(seed)), open(t, "place 1", "fail 3", "lease 1 3", "down 17", "done 1 3 1")
+		for i := 0; i < 300; i++ {
+			if _, err := b.Call(uint8(1+r.Intn(3)), drawn(r)); err != nil {
+				t.Fatal(err)
 			}
 		}
+		entries := make([]Entry, b.Made())
+		if _, err := b.Entries(0, entries); err != nil {
+			t.Fatal(err)
+		}
+		for i, entry := range entries {
+			line, err := b.ReplyLine(i)
+			if have := fmt.Sprintf("%d %s\n", i+1, entry.Reply.String()); err != nil || line != have {
+				t.Errorf("%q and not %q, %v", have, line, err)
+			}
+			met[fmt.Sprint(entry.Reply.Kind, entry.Reply.Repair, entry.Reply.Refusal, len(entry.Reply.sources()))] = true
+		}
 	}
-	if _, err := b.Show("all"); err == nil {
-		t.Error("there is a table of all")
+	if want := 7 + 4 + 17; len(met) != want { // kinds of replies, of repairs of what is granted, and of refusals
+		t.Errorf("%d kinds came, and there are %d: %v", len(met), want, met)
 	}
-	if stripe, err := b.ShowStripe(2); err != nil || len(stripe().Rows) != 1 {
-		t.Error(err)
-	}
-	if _, err := b.ShowStripe(3); !errors.Is(err, ErrNotFound) {
+	if _, err := open(t).ReplyLine(0); !errors.Is(err, ErrNotFound) {
 		t.Error(err)
 	}
 }
@@ -262,15 +272,15 @@ func TestForecastsNameNodesAndDomains(t *testing.T) {
 		{Selection{Faults: []uint8{20}}, 0, false, "no node is in this fault domain: fault 20"},
 		{Selection{Upgrades: []uint8{10}}, 0, false, "no node is in this upgrade domain: upgrade 10"},
 	} {
-		snapshot, isSafe, err := b.ShowForecast(Stop, it.nodes)
+		found, isSafe, err := b.ShowForecast(Stop, it.nodes)
 		if err != nil || it.err != "" {
 			if err == nil || err.Error() != it.err {
 				t.Errorf("%+v: %v", it.nodes, err)
 			}
 			continue
 		}
-		if table := snapshot(); len(table.Rows) != it.rows || isSafe != it.isSafe {
-			t.Errorf("%+v: %s %v", it.nodes, table.CSV(), isSafe)
+		if len(found.rows()) != it.rows || isSafe != it.isSafe {
+			t.Errorf("%+v: %s %v", it.nodes, found.CSV(), isSafe)
 		}
 	}
 }
@@ -280,8 +290,8 @@ func TestNumbersAreAList(t *testing.T) {
 	if err != nil || string(text) != "[[],[1],[0,255]]" {
 		t.Error(string(text), err)
 	}
-	if !reflect.DeepEqual([]uint8(membersOf(0x8005)), []uint8{0, 2, 15}) {
-		t.Error(membersOf(0x8005))
+	if !reflect.DeepEqual([]uint8(membersOf(0x8005)), []uint8{0, 2, 15}) || listOf(0x8005) != "0 2 15" || listOf(0) != "" {
+		t.Error(membersOf(0x8005), listOf(0x8005))
 	}
 }
 

@@ -1,9 +1,15 @@
 package book
 
+/*
+#include "lrc_embed.h"
+*/
+import "C"
+
 import (
 	"fmt"
 	"strconv"
 	"strings"
+	"unsafe"
 )
 
 // A Kind is what a command does. Its numbers are those of lrc_command_kind.
@@ -31,56 +37,6 @@ const (
 	Place6   Kind = 18
 )
 
-// An argument of a command: which number it is.
-type argument int
-
-const (
-	stripe argument = iota
-	fragment
-	epoch
-	node
-	domain
-)
-
-// The greatest number of each argument; the least is 0.
-var most = [...]uint64{stripe: Stripes - 1, fragment: Fragments - 1, epoch: 1<<32 - 1, node: 1<<16 - 1, domain: 1<<8 - 1}
-
-var argumentNames = [...]string{stripe: "stripe", fragment: "fragment", epoch: "epoch", node: "node", domain: "domain"}
-
-type form struct {
-	word      string
-	arguments []argument
-}
-
-var forms = map[Kind]form{
-	Place:    {"place", []argument{stripe}},
-	Place6:   {"place6", []argument{stripe}},
-	Drop:     {"drop", []argument{stripe}},
-	Lease:    {"lease", []argument{stripe, fragment}},
-	Revoke:   {"revoke", []argument{stripe, fragment}},
-	Done:     {"done", []argument{stripe, fragment, epoch}},
-	Abandon:  {"abandon", []argument{stripe, fragment, epoch}},
-	Next:     {"next", nil},
-	Tick:     {"tick", nil},
-	Fail:     {"fail", []argument{node}},
-	Down:     {"down", []argument{node}},
-	Up:       {"up", []argument{node}},
-	Drain:    {"drain", []argument{node}},
-	Undrain:  {"undrain", []argument{node}},
-	Retire:   {"retire", []argument{node}},
-	Join:     {"join", []argument{node}},
-	Upgrade:  {"upgrade", []argument{domain}},
-	Upgraded: {"upgraded", []argument{domain}},
-}
-
-var kinds = func() map[string]Kind {
-	byWord := map[string]Kind{}
-	for kind, form := range forms {
-		byWord[form.word] = kind
-	}
-	return byWord
-}()
-
 // A Command has the layout of lrc_command. The fields that its kind does not use are 0.
 type Command struct {
 	Kind     Kind
@@ -92,28 +48,22 @@ type Command struct {
 	Node     uint16
 }
 
-// Parse reads a command as a line of a script, under the rules of docs/FORMATS.md: words with one space between, numbers
-// without sign and leading zeros.
-func Parse(line string) (Command, error) {
-	words := strings.Split(line, " ")
-	kind, ok := kinds[words[0]]
-	if !ok {
-		return Command{}, fmt.Errorf("the first word is not a command: %q", cut(words[0]))
+// Parse reads a command as a line of a script.
+func Parse(line string) (command Command, err error) {
+	text, cause := []byte(line), C.uint32_t(0)
+	status := C.lrc_embed_read_command(firstByte(text), C.size_t(len(text)), command.c(), &cause)
+	switch status {
+	case C.LRC_DONE:
+		return command, nil
+	case C.LRC_BAD_LINE:
+		return Command{}, fmt.Errorf("%s: %q", lineWords.of(uint32(cause)), cut(line))
+	case C.LRC_UNKNOWN: // (a script passes it over)
+		return Command{}, fmt.Errorf("this is a comment, or empty: %q", cut(line))
 	}
-	arguments := forms[kind].arguments
-	if len(words)-1 != len(arguments) {
-		return Command{}, fmt.Errorf("%s takes another number of words: %d", words[0], len(arguments))
-	}
-	command := Command{Kind: kind}
-	for i, argument := range arguments {
-		value, err := ParseNumber(words[i+1], most[argument])
-		if err != nil {
-			return Command{}, fmt.Errorf("the %s %w", argumentNames[argument], err)
-		}
-		command.set(argument, value)
-	}
-	return command, nil
+	return Command{}, faultOf(status)
 }
+
+func (c *Command) c() *C.lrc_command { return (*C.lrc_command)(unsafe.Pointer(c)) }
 
 // cut shortens a word that somebody sent, for a message.
 func cut(word string) string {
@@ -135,43 +85,23 @@ func ParseNumber(word string, most uint64) (uint64, error) {
 	return value, nil
 }
 
-func (c *Command) set(argument argument, value uint64) {
-	switch argument {
-	case stripe:
-		c.Stripe = uint16(value)
-	case fragment:
-		c.Fragment = uint8(value)
-	case epoch:
-		c.Epoch = uint32(value)
-	case node:
-		c.Node = uint16(value)
-	case domain:
-		c.Domain = uint8(value)
-	}
-}
-
-func (c Command) get(argument argument) uint64 {
-	return [...]uint64{stripe: uint64(c.Stripe), fragment: uint64(c.Fragment), epoch: uint64(c.Epoch),
-		node: uint64(c.Node), domain: uint64(c.Domain)}[argument]
-}
-
-// Word is the first word of the command.
-func (c Command) Word() string {
-	if form, ok := forms[c.Kind]; ok {
-		return form.word
-	}
-	return "command"
-}
+// mostLine is the length of the longest line of a command.
+const mostLine = 26
 
 // String is the command as a line of a script.
 func (c Command) String() string {
-	form, ok := forms[c.Kind]
-	if !ok {
+	text, length := make([]byte, mostLine), C.size_t(0)
+	if C.lrc_embed_command_line(c.c(), firstByte(text), mostLine, &length) != C.LRC_DONE {
 		return fmt.Sprintf("command %d", c.Kind)
 	}
-	words := []string{form.word}
-	for _, argument := range form.arguments {
-		words = append(words, strconv.FormatUint(c.get(argument), 10))
-	}
-	return strings.Join(words, " ")
+	return string(text[:length])
 }
+
+// Word is the first word of the command.
+func (c Command) Word() string { return commandWords.of(uint32(c.Kind)) }
+
+// The first words of commands, whatever their numbers are.
+var commandWords = words{ask: func(kind uint32) string {
+	word, _, _ := strings.Cut(Command{Kind: Kind(kind)}.String(), " ")
+	return word
+}}

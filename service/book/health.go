@@ -1,5 +1,10 @@
 package book
 
+import (
+	"strconv"
+	"strings"
+)
+
 // Levels are numbers of stripes that are not whole, by level.
 type Levels struct {
 	Lost        int
@@ -54,12 +59,31 @@ func (l Level) rank() int {
 // RankForPeople orders stripes by what people look for: the worst first.
 func (l Level) RankForPeople() int { return l.rank() }
 
-// RankForRepair orders stripes by repair: the worst first that can be repaired, and those that can't last, in one place.
-func (l Level) RankForRepair() int {
-	if rank := l.rank(); rank >= 2 {
-		return rank
+// A Reason is a row of the table of health: why not all is well, how much of it there is, and the numbers of the first of it. Where
+// all is well there is one row, whose reason is "ok".
+type Reason struct {
+	Reason string  `json:"reason"`
+	Count  int     `json:"count"`
+	First  []int32 `json:"first"`
+}
+
+// Health is the table of health as rows.
+func (b *Book) Health() ([]Reason, error) {
+	text, err := b.table(views["health"])
+	if err != nil {
+		return nil, err
 	}
-	return 6
+	var rows []Reason
+	for _, cells := range (&Table{text}).rows() {
+		row := Reason{Reason: cells[0], First: []int32{}}
+		row.Count, _ = strconv.Atoi(cells[1]) // (the library writes numbers there)
+		for _, word := range strings.Fields(cells[2]) {
+			number, _ := strconv.ParseInt(word, 10, 32)
+			row.First = append(row.First, int32(number))
+		}
+		rows = append(rows, row)
+	}
+	return rows, nil
 }
 
 // LeaseTicks is the number of ticks that a lease lives.

@@ -26,26 +26,14 @@ func TestABookFaresAsItsWorstStripes(t *testing.T) {
 	}
 }
 
-// Both orders have the margins in the same order; they differ in where stripes stand that can't be repaired.
-func TestStripesHaveAnOrderForPeopleAndOneForRepair(t *testing.T) {
+func TestStripesHaveAnOrderForPeople(t *testing.T) {
 	levels := []Level{{Kind: Whole}, {Kind: Lost}, {Kind: AtRisk, Margin: 2}, {Kind: Unavailable}, {Kind: AtRisk}, {Kind: AtRisk, Margin: 1}}
-	for name, it := range map[string]struct {
-		rank func(Level) int
-		want []Level
-	}{
-		"people": {Level.RankForPeople, []Level{levels[1], levels[3], levels[4], levels[5], levels[2], levels[0]}},
-		"repair": {Level.RankForRepair, []Level{levels[4], levels[5], levels[2], levels[0], levels[1], levels[3]}},
-	} {
-		got := append([]Level{}, levels...)
-		sort.SliceStable(got, func(i, j int) bool { return it.rank(got[i]) < it.rank(got[j]) })
-		for i := range got {
-			if got[i] != it.want[i] {
-				t.Errorf("for %s: %v, and not %v", name, got, it.want)
-				break
-			}
+	want := []Level{levels[1], levels[3], levels[4], levels[5], levels[2], levels[0]}
+	sort.SliceStable(levels, func(i, j int) bool { return levels[i].RankForPeople() < levels[j].RankForPeople() })
+	for i := range levels {
+		if levels[i] != want[i] {
+			t.Errorf("%v, and not %v", levels, want)
+			break
 		}
-	}
-	if (Level{Kind: Lost}).RankForRepair() != (Level{Kind: Unavailable}).RankForRepair() {
-		t.Error("for repair, stripes that can't be repaired stand by their numbers")
 	}
 }

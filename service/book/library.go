@@ -1,7 +1,8 @@
 // Package book is the proved book of lrc_embed for Go.
 //
-// Everything that a command does is decided by the library. This package checks layouts, carries numbers over and writes
-// words. It takes the standard library alone. With the build tag lrc_embed_installed pkg-config finds the library; without it
+// Everything that a command does is decided by the library, and its texts are the library's: lines of commands, tables, words. This
+// package checks layouts and carries numbers and texts over. It writes what the library prints of a whole book alone: the line of one
+// reply, and the row of one stripe. It takes the standard library alone. With the build tag lrc_embed_installed pkg-config finds the library; without it
 // CGO_CFLAGS names the folder of lrc_embed.h and CGO_LDFLAGS the library, which service/build sets both.
 //
 // docs/EMBEDDING.md says how a store keeps its lock and its log around a book: the Entry of each Call goes to the log before the
@@ -10,19 +11,7 @@ package book
 
 /*
 #include <stdlib.h>
-#include <string.h>
 #include "lrc_embed.h"
-
-// A call and its entry in one crossing.
-static uint32_t call_entry(lrc_handle *handle, uint8_t session, const lrc_command *command, lrc_entry *entry) {
-    lrc_reply reply;
-    memset(&reply, 0, sizeof reply);
-    uint32_t status = lrc_embed_call(handle, session, command, &reply);
-    size_t count = 0;
-    if (status == LRC_DONE) status = lrc_embed_count(handle, &count);
-    if (status == LRC_DONE) status = lrc_embed_entry(handle, count - 1, entry);
-    return status;
-}
 */
 import "C"
 
@@ -87,10 +76,10 @@ type Fault struct {
 func (f *Fault) Error() string {
 	switch {
 	case f.Status == C.LRC_INVALID_IMAGE:
-		return fmt.Sprintf("%s: image %d cause %d", causeWords[f.Cause], f.Detail, f.Cause)
+		return fmt.Sprintf("%s: image %d cause %d", causeWords.of(f.Cause), f.Detail, f.Cause)
 	case f.Status == C.LRC_BAD_LINE:
 		return fmt.Sprintf("this line can't stand here in an image: image %d", f.Detail)
-	case topologyWords[f.Status] != "":
+	case nodesWords.of(f.Status) != "":
 		return f.topology()
 	}
 	return statusName(f.Status)
@@ -98,40 +87,11 @@ func (f *Fault) Error() string {
 
 func (f *Fault) topology() string {
 	number := f.Status - C.LRC_SYNTAX + 1
-	text := fmt.Sprintf("%s: topology %d", topologyWords[f.Status], number)
+	text := fmt.Sprintf("%s: topology %d", nodesWords.of(f.Status), number)
 	if f.Status == C.LRC_BAD_FIELD || f.Status == C.LRC_NODE_OUT_OF_RANGE || f.Status == C.LRC_DOUBLE_NODE {
 		text += fmt.Sprintf(" %d", f.Detail)
 	}
 	return text
-}
-
-// The words of docs/FORMATS.md, "Refusals in words".
-var topologyWords = map[uint32]string{
-	C.LRC_SYNTAX:            "the topology is not TOML in UTF-8",
-	C.LRC_NO_NODES:          "the topology has no nodes",
-	C.LRC_BAD_FIELD:         "a number of the node at this position is missing, or not a whole number",
-	C.LRC_NODE_OUT_OF_RANGE: "a number of the node at this position is out of its range",
-	C.LRC_DOUBLE_NODE:       "the node of this number is there twice",
-	C.LRC_TOO_MANY:          "the topology has more than 512 nodes",
-}
-
-var causeWords = map[uint32]string{
-	C.LRC_CAUSE_UNKNOWN_DOMAIN:   "no node is in the upgrading domain",
-	C.LRC_CAUSE_TOO_MANY_ENTRIES: "the number of entries is too high",
-	C.LRC_CAUSE_TOO_MANY_TICKS:   "the clock is too high",
-	C.LRC_CAUSE_OUT_OF_ORDER:     "the row does not come after the earlier ones of its kind",
-	C.LRC_CAUSE_SAYS_NOTHING:     "each count of the row is 0",
-	C.LRC_CAUSE_UNKNOWN_NODE:     "the topology has no such node",
-	C.LRC_CAUSE_GONE_AND_DOWN:    "the node is gone and down",
-	C.LRC_CAUSE_UNKNOWN_FRAGMENT: "the code of the stripe lacks the fragment",
-	C.LRC_CAUSE_UNKNOWN_SLOT:     "the node has no such slot",
-	C.LRC_CAUSE_NODE_GONE:        "the node of the seat is gone",
-	C.LRC_CAUSE_SEAT_TAKEN:       "the seat is held already",
-	C.LRC_CAUSE_NOT_LAWFUL:       "another fragment of the stripe rules the node out",
-	C.LRC_CAUSE_TOO_MANY_GRANTS:  "a count of grants is too high",
-	C.LRC_CAUSE_UNKNOWN_STRIPE:   "the image has no such stripe",
-	C.LRC_CAUSE_NEVER_GRANTED:    "no lease of the fragment was granted",
-	C.LRC_CAUSE_WRONG_EXPIRY:     "the lease ended already, or ends later than three ticks after the clock",
 }
 
 // Texts that no book begins in, by the library's judgement, as any member of a group finds it.
@@ -179,29 +139,11 @@ func Interface() uint32 { return uint32(C.lrc_embed_version()) }
 // Rules is the version of the rules. Logs and images of another one are not those of this library.
 func Rules() uint32 { return uint32(C.lrc_embed_rules_version()) }
 
-func name(ask func(text *C.uint8_t, room C.size_t, length *C.size_t) C.uint32_t) string {
-	text, length := make([]byte, 24), C.size_t(0)
-	if ask(firstByte(text), 24, &length) != C.LRC_DONE {
-		return ""
-	}
-	return string(text[:length])
-}
-
 func statusName(status uint32) string {
-	found := name(func(text *C.uint8_t, room C.size_t, length *C.size_t) C.uint32_t {
-		return C.lrc_embed_status_name(C.uint32_t(status), text, room, length)
-	})
-	if found == "" {
-		return fmt.Sprintf("status %d", status)
+	if found := statusWords.of(status); found != "" {
+		return found
 	}
-	return found
-}
-
-// RefusalName is the word for a refusal, or "".
-func RefusalName(refusal uint8) string {
-	return name(func(text *C.uint8_t, room C.size_t, length *C.size_t) C.uint32_t {
-		return C.lrc_embed_refusal_name(C.uint8_t(refusal), text, room, length)
-	})
+	return fmt.Sprintf("status %d", status)
 }
 
 func firstByte(text []byte) *C.uint8_t {
@@ -267,15 +209,14 @@ func (b *Book) Close() {
 // Call makes one command and returns its entry.
 func (b *Book) Call(session uint8, command Command) (Entry, error) {
 	var entry Entry
-	status := C.call_entry(b.handle, C.uint8_t(session), (*C.lrc_command)(unsafe.Pointer(&command)),
-		(*C.lrc_entry)(unsafe.Pointer(&entry)))
+	status := C.lrc_embed_call_entry(b.handle, C.uint8_t(session), command.c(), (*C.lrc_entry)(unsafe.Pointer(&entry)))
 	return entry, faultOf(status)
 }
 
 // Peek returns the reply that a call would get now.
 func (b *Book) Peek(session uint8, command Command) (Reply, error) {
 	var reply Reply
-	status := C.lrc_embed_peek(b.handle, C.uint8_t(session), (*C.lrc_command)(unsafe.Pointer(&command)),
+	status := C.lrc_embed_peek(b.handle, C.uint8_t(session), command.c(),
 		(*C.lrc_reply)(unsafe.Pointer(&reply)))
 	return reply, faultOf(status)
 }
@@ -311,19 +252,11 @@ func (b *Book) Made() uint64 {
 // Forget empties the history. Nothing else changes.
 func (b *Book) Forget() error { return faultOf(C.lrc_embed_forget(b.handle)) }
 
-// Image is the text of the book's state.
+// Image is the text of the book's state. (To ask with no room would cost as much as the image)
 func (b *Book) Image() ([]byte, error) {
-	for room := 1 << 20; ; { // to ask with no room costs as much as the image
-		text, length := make([]byte, room), C.size_t(0)
-		switch status := C.lrc_embed_image(b.handle, firstByte(text), C.size_t(room), &length); status {
-		case C.LRC_DONE:
-			return text[:length], nil
-		case C.LRC_SHORT:
-			room = int(length)
-		default:
-			return nil, faultOf(status)
-		}
-	}
+	return textOf(1<<20, func(text *C.uint8_t, room C.size_t, length *C.size_t) C.uint32_t {
+		return C.lrc_embed_image(b.handle, text, room, length)
+	})
 }
 
 // Entries writes the entries behind a place, as many as there is room for, and returns how many.

@@ -17,7 +17,7 @@ const (
 )
 
 // String is the word for the code.
-func (c Code) String() string { return [...]string{0: "", Wide: "wide", Narrow: "narrow"}[c] }
+func (c Code) String() string { return codeWords.of(uint32(c)) }
 
 // parities is the number of parities of a stripe of either code; its other fragments are data.
 const parities = 4
@@ -44,9 +44,7 @@ const (
 )
 
 // String is the word for the level in tables.
-func (k LevelKind) String() string {
-	return [...]string{0: "", Whole: "whole", AtRisk: "risk", Unavailable: "unavailable", Lost: "lost"}[k]
-}
+func (k LevelKind) String() string { return levelWords.of(uint32(k)) }
 
 // A StripeRow has the layout of lrc_stripe.
 type StripeRow struct {
@@ -68,9 +66,7 @@ const (
 )
 
 // String is the word for the mode.
-func (m NodeMode) String() string {
-	return [...]string{0: "", Active: "active", Draining: "draining", Gone: "gone"}[m]
-}
+func (m NodeMode) String() string { return modeWords.of(uint32(m)) }
 
 // A NodeRow has the layout of lrc_node.
 type NodeRow struct {

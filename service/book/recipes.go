@@ -7,6 +7,7 @@ import "C"
 
 import (
 	"errors"
+	"fmt"
 	"unsafe"
 )
 
@@ -94,14 +95,14 @@ func (b *Book) Rebuild(stripe uint16, fragment uint8, further []uint8) (Rebuild,
 
 // Table has a row for each fragment that the recipe reads. (What is not missing has a home)
 func (r *Rebuild) Table() *Table {
-	table := &Table{Columns: []string{"fragment", "coefficient", "home"}}
+	text := []byte("fragment,coefficient,home\n")
 	for f, coefficient := range r.Recipe.Coefficients {
 		if coefficient != 0 {
-			table.add(number(f), number(coefficient), seat(r.homes[f].Seat))
+			text = append(text, fmt.Sprintf("%d,%d,%v\n", f, coefficient, r.homes[f].Seat)...)
 		}
 	}
-	return table
+	return &Table{text}
 }
 
 // MissingFragments lists what the recipe does without.
-func (r *Rebuild) MissingFragments() Numbers { return Numbers(membersOf(r.Missing)) }
+func (r *Rebuild) MissingFragments() Numbers { return membersOf(r.Missing) }

@@ -18,9 +18,6 @@ const (
 	Placed6 ReplyKind = 9
 )
 
-var replyWords = [...]string{Placed: "placed", Dropped: "dropped", Granted: "granted", Idle: "idle", Ended: "ended",
-	Changed: "changed", Refused: "refused", Ticked: "ticked", Placed6: "placed"}
-
 // The refusals that the service itself has to tell apart. docs/RULES.md has all of them.
 const (
 	NoLawfulNode  = 103
@@ -43,10 +40,8 @@ const (
 	Local3 Repair = 4 // the three others of its group, in a narrow stripe
 )
 
-var repairWords = [...]string{0: "", Local: "local", Global: "global", Move: "move", Local3: "local"}
-
 // String is the word for the repair; a local one has the same word in both codes.
-func (r Repair) String() string { return repairWords[r] }
+func (r Repair) String() string { return repairWords.of(uint32(r)) }
 
 func (r Repair) sources() int {
 	return [...]int{Local: 6, Local3: 3, Global: 0, Move: 0, 0: 0}[r]
@@ -102,7 +97,7 @@ func OfNotHolder(session uint8) Reply {
 }
 
 // Word is the first word of the reply, which is that of its kind.
-func (r *Reply) Word() string { return replyWords[r.Kind] }
+func (r *Reply) Word() string { return replyWords.of(uint32(r.Kind)) }
 
 func (r *Reply) seats() []Seat {
 	switch r.Kind {
@@ -116,7 +111,9 @@ func (r *Reply) seats() []Seat {
 
 func (r *Reply) sources() []uint8 { return r.Sources[:r.Repair.sources()] }
 
-// String is the reply as `lrcman run` prints it, without the number of its entry.
+// String is the reply as `lrcman run` prints it, without the number of its entry. The library prints the replies of a book's history
+// alone, and a reply outlives that: it is told again for its key, and a peek or a refusal by the service is in no history. So the
+// line is written here, of the proved reply, with the library's words. Tests hold it against the library's line.
 func (r *Reply) String() string {
 	text := append(make([]byte, 0, 192), r.Word()...) // (most replies have room in it)
 	switch r.Kind {

@@ -1,146 +1,174 @@
 package book
 
+/*
+#include "lrc_embed.h"
+*/
+import "C"
+
 import (
-	"errors"
 	"fmt"
 	"math/bits"
-	"sort"
 	"strconv"
 	"strings"
+	"unsafe"
 )
 
-// A Table has the columns and rows that `lrcman show`, `may-stop` and `may-lose` print.
-type Table struct {
-	Columns []string
-	Rows    [][]Cell
-}
-
-// A Cell is a field of a table, which CSV and JSON write otherwise. (Each is written behind the text before it: a table may have
-// a hundred thousand of them)
-type Cell interface {
-	appendCSV(text []byte) []byte
-	appendJSON(text []byte) []byte
-}
-
-type (
-	number  uint64
-	word    string // of letters, digits and "_": JSON writes nothing of it otherwise
-	yesNo   bool
-	mask    uint16
-	numbers []uint8
-	nothing string // what CSV writes where there is nothing; JSON has null
-	seat    Seat
-)
-
-func (n number) appendCSV(text []byte) []byte   { return strconv.AppendUint(text, uint64(n), 10) }
-func (n number) appendJSON(text []byte) []byte  { return n.appendCSV(text) }
-func (w word) appendCSV(text []byte) []byte     { return append(text, w...) }
-func (w word) appendJSON(text []byte) []byte    { return append(w.appendCSV(append(text, '"')), '"') }
-func (m mask) appendJSON(text []byte) []byte    { return append(m.appendCSV(append(text, '"')), '"') }
-func (n nothing) appendCSV(text []byte) []byte  { return append(text, n...) }
-func (n nothing) appendJSON(text []byte) []byte { return append(text, "null"...) }
-func (s seat) appendCSV(text []byte) []byte     { return Seat(s).append(text) }
-func (s seat) appendJSON(text []byte) []byte    { return append(s.appendCSV(append(text, '"')), '"') }
-func (y yesNo) appendJSON(text []byte) []byte   { return strconv.AppendBool(text, bool(y)) }
-
-func (y yesNo) appendCSV(text []byte) []byte {
-	if y {
-		return append(text, "yes"...)
-	}
-	return append(text, "no"...)
-}
-
-func (m mask) appendCSV(text []byte) []byte {
-	const digits = "0123456789abcdef"
-	return append(text, '0', 'x', digits[m>>12], digits[m>>8&15], digits[m>>4&15], digits[m&15])
-}
-
-func (l numbers) appendCSV(text []byte) []byte { return l.appendWith(text, ' ') }
-func (l numbers) appendJSON(text []byte) []byte {
-	return append(l.appendWith(append(text, '['), ','), ']')
-}
-
-func (l numbers) appendWith(text []byte, between byte) []byte {
-	for i, n := range l {
-		if i > 0 {
-			text = append(text, between)
-		}
-		text = strconv.AppendUint(text, uint64(n), 10)
-	}
-	return text
-}
+// A Table is what `lrcman show`, `may-stop` or `may-lose` prints: lines of CSV without quotes, of which the first names the columns.
+type Table struct{ text []byte }
 
 // CSV is the table as the program prints it.
-func (t *Table) CSV() []byte {
-	text := append([]byte(strings.Join(t.Columns, ",")), '\n')
-	for _, row := range t.Rows {
-		for i, cell := range row {
-			if i > 0 {
-				text = append(text, ',')
-			}
-			text = cell.appendCSV(text)
-		}
-		text = append(text, '\n')
-	}
-	return text
+func (t *Table) CSV() []byte { return t.text }
+
+// Columns are the names of the columns.
+func (t *Table) Columns() []string {
+	head, _, _ := strings.Cut(string(t.text), "\n")
+	return strings.Split(head, ",")
 }
 
-// JSON is a list with an object for each row, whose fields are the columns.
-func (t *Table) JSON() []byte {
-	names := make([]string, len(t.Columns))
-	for i, column := range t.Columns {
-		names[i] = "{,"[min(i, 1):min(i, 1)+1] + strconv.Quote(column) + ":"
-	}
-	text := []byte{'['}
-	for i, row := range t.Rows {
-		if i > 0 {
-			text = append(text, ',')
+// rows are the fields of each row.
+func (t *Table) rows() [][]string {
+	var rows [][]string
+	for _, line := range strings.Split(string(t.text), "\n")[1:] {
+		if line != "" { // (behind the last end)
+			rows = append(rows, strings.Split(line, ","))
 		}
-		for j, cell := range row {
-			text = cell.appendJSON(append(text, names[j]...))
-		}
-		text = append(text, '}')
 	}
-	return append(text, ']')
-}
-
-// MarshalJSON is JSON.
-func (t *Table) MarshalJSON() ([]byte, error) { return t.JSON(), nil }
-
-func min(a, b int) int {
-	if a < b {
-		return a
-	}
-	return b
+	return rows
 }
 
 // A TableSnapshot is what a table is made of. It is taken while nobody else uses the book, which is short; the table is made
 // of it later, beside other calls.
-type TableSnapshot func() *Table
+type TableSnapshot func() (*Table, error)
 
-// Views are the tables that Show makes.
-var Views = []string{"status", "stripes", "nodes", "leases", "work"}
+func ready(text []byte) TableSnapshot {
+	return func() (*Table, error) { return &Table{text}, nil }
+}
 
-// Show takes what one of the tables of docs/FORMATS.md, "Output of show", is made of.
-func (b *Book) Show(view string) (TableSnapshot, error) {
-	switch view {
-	case "status":
-		return b.showStatus()
-	case "stripes":
-		return b.showStripes()
-	case "nodes":
-		return b.showNodes()
-	case "leases":
-		return b.showLeases()
-	case "work":
-		return b.showWork()
+// A view is a table of a book.
+type view struct {
+	number C.uint8_t
+	isLong bool // it takes longer than an image of the book
+	room   int  // for its text, in most books
+}
+
+// Views are the tables of a book: those that `lrcman show` prints, with their words joined.
+var Views = []string{"status", "stripes", "nodes", "leases", "work", "fragments", "domains-fault", "domains-upgrade", "health"}
+
+var views = map[string]view{
+	"status": {C.LRC_SHOW_STATUS, false, 1 << 12}, "stripes": {C.LRC_SHOW_STRIPES, true, 1 << 20},
+	"nodes": {C.LRC_SHOW_NODES, false, 1 << 16}, "leases": {C.LRC_SHOW_LEASES, false, 1 << 18},
+	"work": {C.LRC_SHOW_WORK, false, 1 << 18}, "fragments": {C.LRC_SHOW_FRAGMENTS, true, 1 << 22},
+	"domains-fault": {C.LRC_SHOW_DOMAINS_FAULT, true, 1 << 16}, "domains-upgrade": {C.LRC_SHOW_DOMAINS_UPGRADE, true, 1 << 16},
+	"health": {C.LRC_SHOW_HEALTH, true, 1 << 12},
+}
+
+// Show takes what a table is made of. One that would take long is made of a copy of the book, over the nodes of its text.
+func (b *Book) Show(name string, nodes []byte) (TableSnapshot, error) {
+	view, isThere := views[name]
+	if !isThere {
+		return nil, fmt.Errorf("there is no table %q", name)
 	}
-	return nil, fmt.Errorf("there is no table %q", view)
+	if !view.isLong {
+		text, err := b.table(view)
+		return ready(text), err
+	}
+	copied, err := b.Copied(nodes)
+	if err != nil {
+		return nil, err
+	}
+	return func() (*Table, error) {
+		c, err := copied()
+		if err != nil {
+			return nil, err
+		}
+		defer c.Close()
+		text, err := c.table(view)
+		return &Table{text}, err
+	}, nil
+}
+
+// Copied takes the image of a book over the nodes of its text. A copy begins in it later, beside calls of the book: but for the
+// history all looks at the copy are those at the book.
+func (b *Book) Copied(nodes []byte) (func() (*Book, error), error) {
+	image, err := b.Image()
+	return func() (*Book, error) { return OpenImage(nodes, image) }, err
+}
+
+// table is the text of a table.
+func (b *Book) table(of view) ([]byte, error) {
+	return textOf(of.room, func(text *C.uint8_t, room C.size_t, length *C.size_t) C.uint32_t {
+		return C.lrc_embed_show(b.handle, of.number, text, room, length)
+	})
+}
+
+// textOf asks for a text with so much room, and with as much as it needs if that is too little.
+func textOf(room int, ask func(text *C.uint8_t, room C.size_t, length *C.size_t) C.uint32_t) ([]byte, error) {
+	for {
+		text, length := make([]byte, room), C.size_t(0)
+		switch status := ask(firstByte(text), C.size_t(room), &length); status {
+		case C.LRC_DONE:
+			return text[:length], nil
+		case C.LRC_SHORT:
+			room = int(length)
+		default:
+			return nil, faultOf(status)
+		}
+	}
+}
+
+// ShowForecast is the table of an outage of all these nodes at once, and tells whether no stripe is harmed.
+func (b *Book) ShowForecast(outage Outage, selected Selection) (*Table, bool, error) {
+	nodes, err := b.nodesOf(selected)
+	if err != nil {
+		return nil, false, err
+	}
+	first, isSafe := (*C.uint16_t)(nil), C.uint8_t(0)
+	if len(nodes) > 0 {
+		first = (*C.uint16_t)(unsafe.Pointer(&nodes[0]))
+	}
+	text, err := textOf(1<<18, func(text *C.uint8_t, room C.size_t, length *C.size_t) C.uint32_t {
+		return C.lrc_embed_forecast_table(b.handle, C.uint8_t(outage), first, C.size_t(len(nodes)), text, room, length, &isSafe)
+	})
+	return &Table{text}, isSafe == 1, err
+}
+
+// ShowStripe is the row of one stripe in the table of stripes. The library writes the whole table alone, so the row is made here.
+func (b *Book) ShowStripe(stripe uint16) (*Table, error) {
+	row, err := b.Stripe(stripe)
+	if err != nil {
+		return nil, err
+	}
+	homes, err := b.Homes(stripe)
+	if err != nil {
+		return nil, err
+	}
+	margin := "-"
+	switch row.Level.Kind {
+	case Whole:
+		margin = "3"
+	case AtRisk:
+		margin = strconv.Itoa(int(row.Level.Margin))
+	}
+	columns, seats, homeless := []string{}, []string{}, uint16(0)
+	for f, home := range homes {
+		columns = append(columns, fmt.Sprintf("home_%d", f))
+		switch {
+		case f >= row.Code.Fragments():
+			seats = append(seats, "")
+		case home.IsThere == 0:
+			seats, homeless = append(seats, "-"), homeless|1<<f
+		default:
+			seats = append(seats, home.Seat.String())
+		}
+	}
+	return &Table{[]byte(fmt.Sprintf("stripe,code,level,margin,missing,missing_fragments,homeless,homeless_fragments,%s\n"+
+		"%d,%v,%v,%s,0x%04x,%s,0x%04x,%s,%s\n", strings.Join(columns, ","), stripe, row.Code, row.Level.Kind, margin, row.Missing,
+		listOf(row.Missing), homeless, listOf(homeless), strings.Join(seats, ",")))}, nil
 }
 
 // membersOf lists the fragments of a set.
-func membersOf(set uint16) numbers {
-	list := numbers{}
+func membersOf(set uint16) Numbers {
+	list := make(Numbers, 0, bits.OnesCount16(set))
 	for f := uint8(0); f < Fragments; f++ {
 		if set>>f&1 == 1 {
 			list = append(list, f)
@@ -149,301 +177,8 @@ func membersOf(set uint16) numbers {
 	return list
 }
 
-// margin is how many further losses a stripe survives, whichever they are.
-func margin(level Level) Cell {
-	switch level.Kind {
-	case Whole:
-		return number(3)
-	case AtRisk:
-		return number(level.Margin)
-	}
-	return nothing("-")
-}
-
-// homeless are the fragments without any home.
-func homeless(code Code, homes *[Fragments]Home) uint16 {
-	set := uint16(0)
-	for f := 0; f < code.Fragments(); f++ {
-		if homes[f].IsThere == 0 {
-			set |= 1 << f
-		}
-	}
-	return set
-}
-
-// counts are the rows of `show status`, by their names.
-type counts map[string]int
-
-var statusNames = []string{"stripes", "whole", "at_risk_margin_2", "at_risk_margin_1", "at_risk_margin_0",
-	"unavailable", "lost", "missing_fragments", "homeless_fragments", "leases", "held_seats", "slots",
-	"nodes_active", "nodes_draining", "nodes_gone", "nodes_down", "nodes_online"}
-
-func (c counts) stripe(row StripeRow, homeless uint16) {
-	c["stripes"]++
-	if row.Level.Kind == AtRisk {
-		c[fmt.Sprintf("at_risk_margin_%d", row.Level.Margin)]++
-	} else {
-		c[row.Level.Kind.String()]++
-	}
-	c["missing_fragments"] += bits.OnesCount16(row.Missing)
-	c["homeless_fragments"] += bits.OnesCount16(homeless)
-}
-
-func (c counts) node(row NodeRow) {
-	c["held_seats"] += int(row.Load)
-	c["slots"] += int(row.Slots)
-	c["nodes_"+row.Mode.String()]++
-	c["nodes_down"] += int(row.IsDown)
-	c["nodes_online"] += int(row.IsOnline)
-}
-
-func (b *Book) showStatus() (TableSnapshot, error) {
-	found := counts{}
-	stripes, err := b.StripeRows()
-	if err != nil {
-		return nil, err
-	}
-	for _, row := range stripes {
-		homes, err := b.Homes(row.Stripe)
-		if err != nil {
-			return nil, err
-		}
-		found.stripe(row, homeless(row.Code, &homes))
-	}
-	nodes, err := b.NodeRows()
-	if err != nil {
-		return nil, err
-	}
-	for _, row := range nodes {
-		found.node(row)
-	}
-	leases, err := b.LeaseRows()
-	if err != nil {
-		return nil, err
-	}
-	found["leases"] = len(leases)
-	upgrading, clock, made := b.upgradingCell(), b.Clock(), b.Made()
-	return func() *Table {
-		table := &Table{Columns: []string{"name", "value"}}
-		for _, name := range statusNames {
-			table.add(word(name), number(found[name]))
-		}
-		table.add(word("upgrading"), upgrading)
-		table.add(word("clock"), number(clock))
-		table.add(word("entries"), number(made))
-		return table
-	}, nil
-}
-
-func (b *Book) upgradingCell() Cell {
-	if domain, ok := b.Upgrading(); ok {
-		return number(domain)
-	}
-	return word("none")
-}
-
-func (t *Table) add(cells ...Cell) { t.Rows = append(t.Rows, cells) }
-
-var stripeColumns = func() []string {
-	columns := []string{"stripe", "code", "level", "margin", "missing", "missing_fragments", "homeless", "homeless_fragments"}
-	for f := 0; f < Fragments; f++ {
-		columns = append(columns, fmt.Sprintf("home_%d", f))
-	}
-	return columns
-}()
-
-// A placed stripe is its row and its homes.
-type placed struct {
-	row   StripeRow
-	homes [Fragments]Home
-}
-
-func (p *placed) cells() []Cell {
-	row, gone := p.row, homeless(p.row.Code, &p.homes)
-	cells := append(make([]Cell, 0, len(stripeColumns)), number(row.Stripe), word(row.Code.String()), word(row.Level.Kind.String()),
-		margin(row.Level), mask(row.Missing), membersOf(row.Missing), mask(gone), membersOf(gone))
-	for f, home := range p.homes {
-		switch {
-		case f >= row.Code.Fragments():
-			cells = append(cells, nothing(""))
-		case home.IsThere == 0:
-			cells = append(cells, nothing("-"))
-		default:
-			cells = append(cells, seat(home.Seat))
-		}
-	}
-	return cells
-}
-
-func (b *Book) showRows(rows []StripeRow) (TableSnapshot, error) {
-	stripes := make([]placed, len(rows))
-	for i, row := range rows {
-		homes, err := b.Homes(row.Stripe)
-		if err != nil {
-			return nil, err
-		}
-		stripes[i] = placed{row, homes}
-	}
-	return func() *Table {
-		table := &Table{Columns: stripeColumns}
-		for i := range stripes {
-			table.add(stripes[i].cells()...)
-		}
-		return table
-	}, nil
-}
-
-// ShowStripe takes the row of one stripe in the table of stripes.
-func (b *Book) ShowStripe(stripe uint16) (TableSnapshot, error) {
-	row, err := b.Stripe(stripe)
-	if err != nil {
-		return nil, err
-	}
-	return b.showRows([]StripeRow{row})
-}
-
-func (b *Book) showStripes() (TableSnapshot, error) {
-	rows, err := b.StripeRows()
-	if err != nil {
-		return nil, err
-	}
-	return b.showRows(rows)
-}
-
-func (b *Book) showNodes() (TableSnapshot, error) {
-	rows, err := b.NodeRows()
-	if err != nil {
-		return nil, err
-	}
-	leases, err := b.LeaseRows()
-	if err != nil {
-		return nil, err
-	}
-	domain, isUpgrading := b.Upgrading()
-	return func() *Table {
-		targets := map[uint16]uint32{}
-		for _, lease := range leases {
-			targets[lease.Target.Node]++
-		}
-		table := &Table{Columns: []string{"node", "fault", "upgrade", "mode", "down", "upgrading", "online", "homes", "targets",
-			"load", "slots"}}
-		for _, row := range rows {
-			held := targets[row.Number]
-			table.add(number(row.Number), number(row.Fault), number(row.Upgrade), word(row.Mode.String()), yesNo(row.IsDown == 1),
-				yesNo(isUpgrading && row.Upgrade == domain), yesNo(row.IsOnline == 1), number(row.Load-held), number(held),
-				number(row.Load), number(row.Slots))
-		}
-		return table
-	}, nil
-}
-
-func (b *Book) showLeases() (TableSnapshot, error) {
-	rows, err := b.LeaseRows()
-	return func() *Table {
-		table := &Table{Columns: []string{"stripe", "fragment", "holder", "target", "epoch", "expiry"}}
-		for _, row := range rows {
-			table.add(number(row.Stripe), number(row.Fragment), number(row.Holder), seat(row.Target), number(row.Epoch),
-				number(row.Expiry))
-		}
-		return table
-	}, err
-}
-
-// A job is a fragment that needs a lease.
-type job struct {
-	stripe   uint16
-	fragment uint8
-	plan     Plan
-	reads    int      // the number of fragments that the repair reads; 0 if what is left does not determine the fragment
-	lease    LeaseRow // with epoch 0 if there is none
-	standing string
-}
-
-func (j *job) cells() []Cell {
-	plan := j.plan
-	cells := []Cell{number(j.stripe), number(j.fragment), word(plan.Repair.String()),
-		numbers(plan.Sources[:plan.Repair.sources()]), nothing(""), word(j.standing)}
-	if j.reads > 0 {
-		cells[4] = number(j.reads)
-	}
-	if j.lease.Epoch == 0 {
-		return append(cells, nothing(""), nothing(""))
-	}
-	return append(cells, number(j.lease.Holder), number(j.lease.Epoch))
-}
-
-func (b *Book) showWork() (TableSnapshot, error) {
-	jobs, err := b.jobs()
-	return func() *Table {
-		table := &Table{Columns: []string{"stripe", "fragment", "kind", "sources", "reads", "standing", "holder", "epoch"}}
-		for i := range jobs {
-			table.add(jobs[i].cells()...)
-		}
-		return table
-	}, err
-}
-
-// jobs are the fragments that need a lease, in the order of repair.
-func (b *Book) jobs() ([]job, error) {
-	nodes, err := b.NodeRows()
-	if err != nil {
-		return nil, err
-	}
-	isDraining := false
-	for _, node := range nodes {
-		isDraining = isDraining || node.Mode == Draining
-	}
-	rows, err := b.StripeRows()
-	if err != nil {
-		return nil, err
-	}
-	sort.SliceStable(rows, func(i, j int) bool { return rows[i].Level.RankForRepair() < rows[j].Level.RankForRepair() })
-	var jobs []job
-	for _, row := range rows {
-		if row.Level.Kind == Whole && !isDraining {
-			continue // no fragment of it is homeless, and none is to be moved
-		}
-		for f := uint8(0); int(f) < row.Code.Fragments(); f++ {
-			it, err := b.job(row, f)
-			if err != nil && !errors.Is(err, ErrNotFound) {
-				return nil, err
-			} else if err == nil {
-				jobs = append(jobs, it)
-			}
-		}
-	}
-	return jobs, nil
-}
-
-// job tells how a fragment is repaired; unknown if it needs no lease.
-func (b *Book) job(row StripeRow, fragment uint8) (it job, err error) {
-	stripe := row.Stripe
-	it = job{stripe: stripe, fragment: fragment, standing: "leased"}
-	if it.plan, err = b.Repair(stripe, fragment); err != nil {
-		return it, err
-	}
-	it.reads = readsOf(it.plan.Repair, row)
-	if it.lease, err = b.Lease(stripe, fragment); err == nil || !errors.Is(err, ErrNotFound) {
-		return it, err
-	}
-	reply, err := b.Peek(1, Command{Kind: Lease, Stripe: stripe, Fragment: fragment})
-	it.standing = map[uint8]string{0: "open", NoLawfulNode: "no_node", Unrecoverable: "unrecoverable"}[reply.Refusal]
-	return it, err
-}
-
-// readsOf is the number of fragments that a repair reads: those of its local group, the fragment itself for a move, or else as
-// many as the stripe has data fragments, if its missing fragments are recoverable.
-func readsOf(repair Repair, row StripeRow) int {
-	switch {
-	case repair.sources() > 0:
-		return repair.sources()
-	case repair == Move:
-		return 1
-	case row.Level.Kind == Whole || row.Level.Kind == AtRisk:
-		return row.Code.Fragments() - parities
-	}
-	return 0
-}
+// listOf is that list as tables have it.
+func listOf(set uint16) string { return strings.Trim(fmt.Sprint([]uint8(membersOf(set))), "[]") }
 
 // A notFound is an ErrNotFound of a node or a domain of an outage; of a stripe, a fragment or its lease.
 type notFound struct {
@@ -507,24 +242,4 @@ func (b *Book) nodesOf(selected Selection) ([]uint16, error) {
 		nodes = append(nodes, byUpgrade[domain]...)
 	}
 	return nodes, nil
-}
-
-// ShowForecast takes what the table of docs/FORMATS.md, "Output of may-stop and may-lose", is made of, and tells whether no
-// stripe is harmed.
-func (b *Book) ShowForecast(outage Outage, selected Selection) (TableSnapshot, bool, error) {
-	nodes, err := b.nodesOf(selected)
-	if err != nil {
-		return nil, false, err
-	}
-	rows, isSafe, err := b.Forecast(outage, nodes)
-	return func() *Table {
-		table := &Table{Columns: []string{"stripe", "code", "level_before", "margin_before", "level_after", "margin_after",
-			"missing_after", "missing_fragments_after", "leases_ended", "harmed"}}
-		for _, row := range rows {
-			table.add(number(row.Stripe), word(row.Code.String()), word(row.Before.Kind.String()), margin(row.Before),
-				word(row.After.Kind.String()), margin(row.After), mask(row.Missing), membersOf(row.Missing),
-				number(row.LeasesEnded), yesNo(row.IsHarmed == 1))
-		}
-		return table
-	}, isSafe, err
 }

@@ -4,7 +4,7 @@
 //	if err != nil {
 //		return err
 //	}
-//	reply, err := c.Call(ctx, "p0", client.Place(17))
+//	reply, err := c.Call(ctx, "p0", "place 17")
 //
 // A Client may be used by several goroutines at once. It asks one member after the other until one answers, or Config.Timeout
 // or the context is over. A member that sends Retry-After is left alone so long.

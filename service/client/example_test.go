@@ -19,7 +19,7 @@ func Example() {
 	ctx, cancel := context.WithTimeout(context.Background(), time.Minute)
 	defer cancel()
 	worker := client.WithWorker("w7")
-	reply, err := c.Call(ctx, "p0", client.Next(), worker)
+	reply, err := c.Call(ctx, "p0", "next", worker)
 	if err != nil || reply.Kind != client.Granted {
 		return
 	}

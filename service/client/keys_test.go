@@ -41,7 +41,7 @@ func TestEachCallIsMadeAtMostOnceAndToldRightly(t *testing.T) {
 // to its member late)
 func checkOne(t *testing.T, g *group, c *Client, worker string) string {
 	t.Helper()
-	reply, err := c.Call(background, "p0", Tick(), WithWorker(worker))
+	reply, err := c.Call(background, "p0", "tick", WithWorker(worker))
 	g.mu.Lock()
 	g.makeLate()
 	var tries []call
@@ -99,7 +99,7 @@ func TestEachFaultIsToldAsWhatItIs(t *testing.T) {
 		g := newGroup(100)
 		members, c := serve(t, g, 2, Config{Attempt: attempt})
 		members[0].plan(0, it.fault)
-		reply, err := c.Call(background, "p0", Tick())
+		reply, err := c.Call(background, "p0", "tick")
 		if _, keys := g.times(""); err != nil || keys != 1 || reply.Clock != 1 {
 			t.Errorf("%s, and then another member: %+v %v, %d keys", it.name, reply, err, keys)
 		}
@@ -114,7 +114,7 @@ func checkAlone(t *testing.T, name string, fault fault, maybe bool, attempt time
 	members, c := serve(t, g, 1, Config{Timeout: 80 * time.Millisecond, Attempt: attempt})
 	c.hearIndex(8)
 	members[0].plan(0, repeat(fault, 1000)...)
-	_, err := c.Call(background, "p0", Tick())
+	_, err := c.Call(background, "p0", "tick")
 	var unknown *OutcomeUnknown
 	if err == nil || errors.As(err, &unknown) != maybe {
 		t.Errorf("%s alone: %v", name, err)
@@ -125,7 +125,7 @@ func checkAlone(t *testing.T, name string, fault fault, maybe bool, attempt time
 	}
 	members[0].plan(0)
 	c.cfg.Timeout, c.cfg.Attempt = 10*time.Second, 10*time.Second
-	again, err := c.Call(background, "p0", Tick(), WithKey(unknown.Key, unknown.Since))
+	again, err := c.Call(background, "p0", "tick", WithKey(unknown.Key, unknown.Since))
 	if made, keys := g.times(unknown.Key); err != nil || made != 1 || again.N != 1 || keys != 1 {
 		t.Errorf("%s, and later again: %+v %v, made %d times", name, again, err, made)
 	}
@@ -142,7 +142,7 @@ func TestAllTriesHaveOneKeyAndTheSinceFromBeforeTheFirst(t *testing.T) {
 	g := newGroup(100)
 	members, c := serve(t, g, 1, Config{})
 	members[0].plan(3, never, busy, cutBefore, unknown)
-	if _, err := c.Call(background, "p0", Tick()); err != nil {
+	if _, err := c.Call(background, "p0", "tick"); err != nil {
 		t.Fatal(err)
 	}
 	tries := g.tries()
@@ -155,7 +155,7 @@ func TestAllTriesHaveOneKeyAndTheSinceFromBeforeTheFirst(t *testing.T) {
 		t.Errorf("%d tries", len(tries))
 	}
 	heard := g.index
-	_, err := c.Call(background, "p0", Tick())
+	_, err := c.Call(background, "p0", "tick")
 	if last := g.tries()[5]; err != nil || last.Since != heard || last.Key == tries[0].Key {
 		t.Errorf("%v, the next call %+v, and index %d", err, last, heard)
 	}
@@ -183,7 +183,7 @@ func TestAKeyThatMayBeForgotten(t *testing.T) {
 		}
 		members[0].plan(0, it.faults...)
 		g.others(20)
-		reply, err := c.Call(background, "p0", Tick(), it.options...)
+		reply, err := c.Call(background, "p0", "tick", it.options...)
 		var forgotten *KeyForgotten
 		first := g.tries()[0]
 		made, _ := g.times(first.Key)
@@ -197,11 +197,11 @@ func TestAKeyThatMayBeForgotten(t *testing.T) {
 func TestWhatWasSentBeforeIsUnknownUntilItIsTold(t *testing.T) {
 	c := newClient(t, Config{Servers: []string{"127.0.0.1:9"}, Timeout: 20 * time.Millisecond})
 	var unknown *OutcomeUnknown
-	_, err := c.Call(background, "p0", Tick(), WithKey("mine", 6))
+	_, err := c.Call(background, "p0", "tick", WithKey("mine", 6))
 	if !errors.As(err, &unknown) || unknown.Key != "mine" || unknown.Since != 6 {
 		t.Errorf("sent before: %v", err)
 	}
-	if _, err := c.Call(background, "p0", Tick(), WithKey("mine", 0)); err == nil || errors.As(err, &unknown) {
+	if _, err := c.Call(background, "p0", "tick", WithKey("mine", 0)); err == nil || errors.As(err, &unknown) {
 		t.Errorf("never sent: %v", err)
 	}
 }
@@ -253,11 +253,11 @@ func TestAContextEndsACall(t *testing.T) {
 	ctx, cancel := context.WithTimeout(background, 50*time.Millisecond)
 	defer cancel()
 	var unknown *OutcomeUnknown
-	_, err := c.Call(ctx, "p0", Tick())
+	_, err := c.Call(ctx, "p0", "tick")
 	if !errors.Is(err, context.DeadlineExceeded) || !errors.As(err, &unknown) {
 		t.Errorf("sent: %v", err)
 	}
-	_, err = c.Call(ctx, "p0", Tick())
+	_, err = c.Call(ctx, "p0", "tick")
 	if unknown = nil; !errors.Is(err, context.DeadlineExceeded) || errors.As(err, &unknown) {
 		t.Errorf("not sent: %v", err)
 	}
@@ -269,14 +269,14 @@ func TestAMemberIsLeftAloneAsLongAsItWants(t *testing.T) {
 	members[0].rest = "1"
 	members[0].plan(0, tooMany)
 	begun := time.Now()
-	if _, err := c.Call(background, "p0", Tick()); err != nil || time.Since(begun) < time.Second {
+	if _, err := c.Call(background, "p0", "tick"); err != nil || time.Since(begun) < time.Second {
 		t.Errorf("after %v: %v", time.Since(begun), err)
 	}
 	members, c = serve(t, g, 2, Config{})
 	members[0].rest = "5"
 	members[0].plan(0, busy)
 	begun = time.Now()
-	if _, err := c.Call(background, "p0", Tick()); err != nil || time.Since(begun) > 4*time.Second {
+	if _, err := c.Call(background, "p0", "tick"); err != nil || time.Since(begun) > 4*time.Second {
 		t.Errorf("another member is asked after %v: %v", time.Since(begun), err)
 	}
 	members[1].rest = "5"
@@ -284,7 +284,7 @@ func TestAMemberIsLeftAloneAsLongAsItWants(t *testing.T) {
 	members[1].plan(0, busy)
 	c.cfg.Timeout = 300 * time.Millisecond
 	begun = time.Now()
-	if _, err := c.Call(background, "p0", Tick()); err == nil || time.Since(begun) > 3*time.Second {
+	if _, err := c.Call(background, "p0", "tick"); err == nil || time.Since(begun) > 3*time.Second {
 		t.Errorf("a rest beyond the timeout was waited for: %v, %v", time.Since(begun), err)
 	}
 }
@@ -298,13 +298,13 @@ func TestNobodyWhoListensHasMadeNothing(t *testing.T) {
 	g := newGroup(100)
 	_, other := serve(t, g, 1, Config{})
 	c := newClient(t, Config{Servers: append([]string{nobody.Addr().String()}, other.order()...)})
-	if reply, err := c.Call(background, "p0", Tick()); err != nil || reply.N != 1 {
+	if reply, err := c.Call(background, "p0", "tick"); err != nil || reply.N != 1 {
 		t.Errorf("%+v %v", reply, err)
 	}
 	c = newClient(t, Config{Servers: []string{nobody.Addr().String()}, Timeout: 50 * time.Millisecond})
 	c.hearIndex(7)
 	var unknown *OutcomeUnknown
-	_, err = c.Call(background, "p0", Tick())
+	_, err = c.Call(background, "p0", "tick")
 	if err == nil || errors.As(err, &unknown) || !strings.Contains(err.Error(), "does not answer") {
 		t.Error(err)
 	}
@@ -324,7 +324,7 @@ func TestManyCallersShareAClient(t *testing.T) {
 		go func() {
 			var err error
 			for turn := 0; turn < each && err == nil; turn++ {
-				_, err = c.Call(background, "p0", Tick())
+				_, err = c.Call(background, "p0", "tick")
 			}
 			failed <- err
 		}()

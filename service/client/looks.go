@@ -96,7 +96,8 @@ func (c *Client) Books(ctx context.Context, given ...Option) ([]Book, Look, erro
 // A Row is a row of a table: its columns, as JSON has them.
 type Row map[string]interface{}
 
-// Table is a table of `show`: status, stripes, nodes, leases or work. ShowStatus and so on have them in types.
+// Table is a table of `show`: status, stripes, nodes, leases, work, fragments, domains-fault, domains-upgrade or health. ShowStatus
+// and so on have some of them in types.
 func (c *Client) Table(ctx context.Context, book, view string, given ...Option) ([]Row, Look, error) {
 	var told struct {
 		Rows []Row `json:"rows"`
@@ -282,6 +283,22 @@ func (c *Client) ShowWork(ctx context.Context, book string, given ...Option) ([]
 		Rows []Job `json:"rows"`
 	}
 	look, err := c.show(ctx, book, "work", given, &told)
+	return told.Rows, look, err
+}
+
+// A Reason is a row of the table of health: why not all is well. Where all is well there is one row, with "ok".
+type Reason struct {
+	Reason string `json:"reason"`
+	Count  int    `json:"count"`
+	First  []int  `json:"first"` // the numbers of the first of it: a stripe, a stripe and a fragment, a domain, or none
+}
+
+// ShowHealth are the reasons why not all is well in a book, the gravest first.
+func (c *Client) ShowHealth(ctx context.Context, book string, given ...Option) ([]Reason, Look, error) {
+	var told struct {
+		Rows []Reason `json:"rows"`
+	}
+	look, err := c.show(ctx, book, "health", given, &told)
 	return told.Rows, look, err
 }
 

@@ -39,6 +39,26 @@ func (s *recorder) ServeHTTP(w http.ResponseWriter, r *http.Request) {
 	io.WriteString(w, answer+"\n")
 }
 
+// answer gives other answers from now on.
+func (s *recorder) answer(answers map[string]string) {
+	s.mu.Lock()
+	defer s.mu.Unlock()
+	s.answers = answers
+}
+
+// last are the request that came last, its body and its token.
+func (s *recorder) last() (asked, body, token string) {
+	s.mu.Lock()
+	defer s.mu.Unlock()
+	return s.asked[len(s.asked)-1], s.bodies[len(s.bodies)-1], s.token
+}
+
+func (s *recorder) requests() int {
+	s.mu.Lock()
+	defer s.mu.Unlock()
+	return len(s.asked)
+}
+
 func record(t *testing.T, answers map[string]string) (*recorder, *Client) {
 	t.Helper()
 	s := &recorder{answers: answers}
@@ -62,6 +82,8 @@ var sample = map[string]string{
 	"GET /books/p0/show/leases": `{"rows":[{"stripe":1,"fragment":3,"holder":2,"target":"17:0","epoch":1,"expiry":3}]}`,
 	"GET /books/p0/show/work": `{"rows":[{"stripe":1,"fragment":3,"kind":"local","sources":[0,1,2],"reads":6,"standing":"leased",` +
 		`"holder":2,"epoch":1},{"stripe":2,"fragment":0,"kind":"global","sources":[],"reads":null,"standing":"open","holder":null,"epoch":null}]}`,
+	"GET /books/p0/show/health": `{"rows":[{"reason":"margin_2","count":3,"first":[7]},{"reason":"waiting","count":1,"first":[7,3]},` +
+		`{"reason":"slots","count":5,"first":[]}]}`,
 	"GET /books/p0/workers": `{"rows":[{"stripe":1,"fragment":3,"epoch":2,"worker":"w7"}]}`,
 	"GET /books/p0/recipe":  `{"code":"wide","missing_fragments":[3],"rows":[{"fragment":0,"coefficient":200,"home":"7:1"}]}`,
 	"GET /matrix":           `{"code":"narrow","rows":[[1,0],[0,255]]}`,
@@ -105,6 +127,8 @@ func TestEachLookIsReadIntoTypes(t *testing.T) {
 		{"GET /books/p0/show/status?now=1", func() (any, Look, error) { return three(c.ShowStatus(background, "p0", WithNow())) },
 			Summary{Stripes: 60, AtRiskMargin2: 1, Entries: 17}},
 		{"GET /books/p0/show/stripes", func() (any, Look, error) { return three(c.ShowStripes(background, "p0")) }, []Stripe{theStripe}},
+		{"GET /books/p0/show/health", func() (any, Look, error) { return three(c.ShowHealth(background, "p0")) },
+			[]Reason{{"margin_2", 3, []int{7}}, {"waiting", 1, []int{7, 3}}, {"slots", 5, []int{}}}},
 		{"GET /books/p0/stripes/5", func() (any, Look, error) { return three(c.ShowStripe(background, "p0", 5)) }, theStripe},
 		{"GET /books/p0/show/nodes", func() (any, Look, error) { return three(c.ShowNodes(background, "p0")) },
 			[]Node{{300, 1, 2, "draining", true, false, false, 3, 1, 4, 64}}},
@@ -127,7 +151,7 @@ func TestEachLookIsReadIntoTypes(t *testing.T) {
 			return rows[0]["kind"], look, err
 		}, "local"},
 		{"GET /books/p0/peek?command=next&session=3", func() (any, Look, error) {
-			reply, look, err := c.Peek(background, "p0", Next(), WithSession(3))
+			reply, look, err := c.Peek(background, "p0", "next", WithSession(3))
 			return reply.Kind, look, err
 		}, Idle},
 	} {
@@ -135,8 +159,8 @@ func TestEachLookIsReadIntoTypes(t *testing.T) {
 		if err != nil || look != want || !reflect.DeepEqual(got, it.want) {
 			t.Errorf("%s: %+v %+v %v, and not %+v", it.asked, got, look, err, it.want)
 		}
-		if asked := s.asked[len(s.asked)-1]; asked != it.asked || s.token != "Bearer letters" {
-			t.Errorf("asked %s with %q, and not %s", asked, s.token, it.asked)
+		if asked, _, token := s.last(); asked != it.asked || token != "Bearer letters" {
+			t.Errorf("asked %s with %q, and not %s", asked, token, it.asked)
 		}
 	}
 	if rows, err := c.Matrix(background, "narrow"); err != nil || !reflect.DeepEqual(rows, [][]uint8{{1, 0}, {0, 255}}) {
@@ -171,7 +195,7 @@ func TestEachChangeIsAskedFor(t *testing.T) {
 		{func() error { _, err := c.ChangeRules(background, 2, 0, own); return err }, "PUT /rules?key=mine&since=5",
 			`application/json {"rules":2}`},
 		{func() error {
-			_, err := c.Call(background, "p0", Done(1, 3, 4), own, WithSession(2), WithWorker("w7"), WithPosition(Position{17, 3072}))
+			_, err := c.Call(background, "p0", "done 1 3 4", own, WithSession(2), WithWorker("w7"), WithPosition(Position{17, 3072}))
 			return err
 		}, "POST /books/p0/call",
 			`application/json {"at":17,"command":"done 1 3 4","opens":3072,"session":2,"worker":"w7","key":"mine","since":5}`},
@@ -189,7 +213,7 @@ func TestEachChangeIsAskedFor(t *testing.T) {
 		if err := it.make(); err != nil {
 			t.Errorf("%s: %v", it.asked, err)
 		}
-		if asked, body := s.asked[len(s.asked)-1], s.bodies[len(s.bodies)-1]; asked != it.asked || body != it.body {
+		if asked, body, _ := s.last(); asked != it.asked || body != it.body {
 			t.Errorf("asked %s with %s, and not %s with %s", asked, body, it.asked, it.body)
 		}
 	}
@@ -197,7 +221,7 @@ func TestEachChangeIsAskedFor(t *testing.T) {
 
 func TestWhatIsToldOfChangesIsRead(t *testing.T) {
 	_, c := record(t, sample)
-	reply, err := c.Call(background, "p0", Next())
+	reply, err := c.Call(background, "p0", "next")
 	lease := &Grant{1, 3, Seat{17, 2}, 4, "local", []uint8{0, 1, 2}}
 	if err != nil || reply.N != 18 || reply.Kind != Granted || !reflect.DeepEqual(reply.Lease, lease) || !strings.HasPrefix(string(reply.Raw), `{"n":18`) {
 		t.Errorf("%+v %+v %v", reply, reply.Lease, err)
@@ -221,7 +245,7 @@ func TestWhatIsToldOfChangesIsRead(t *testing.T) {
 		t.Errorf("%+v %v", list, err)
 	}
 	var told *Error
-	if _, err := c.Call(background, "p9", Tick()); !errors.As(err, &told) || told.Code != CodeNoBook || told.Status != 404 {
+	if _, err := c.Call(background, "p9", "tick"); !errors.As(err, &told) || told.Code != CodeNoBook || told.Status != 404 {
 		t.Error(err)
 	}
 	if want := "there is no book (404 from " + c.order()[0] + ")"; told.Error() != want {
@@ -253,10 +277,9 @@ func TestRepliesAreReadInEachKind(t *testing.T) {
 }
 
 func TestCommandsAreLinesOfAScript(t *testing.T) {
-	for got, want := range map[Command]string{Place(17): "place 17", Place6(4095): "place6 4095", Drop(0): "drop 0", Lease(1, 3): "lease 1 3",
-		Next(): "next", Done(1, 3, 4294967295): "done 1 3 4294967295", Abandon(1, 3, 2): "abandon 1 3 2", Revoke(1, 3): "revoke 1 3",
-		Fail(65535): "fail 65535", Down(1): "down 1", Up(1): "up 1", Drain(1): "drain 1", Undrain(1): "undrain 1", Retire(1): "retire 1",
-		Join(1): "join 1", Upgrade(255): "upgrade 255", Upgraded(2): "upgraded 2", Tick(): "tick"} {
+	for got, want := range map[Command]string{
+		Commandf("tick"): "tick", Commandf("done %d %d %d", uint16(4095), uint8(15), uint32(4294967295)): "done 4095 15 4294967295",
+	} {
 		if string(got) != want {
 			t.Errorf("%q, and not %q", got, want)
 		}
@@ -304,7 +327,7 @@ func TestMembersAreFoundAndTheLeaderIsAskedFirst(t *testing.T) {
 		t.Errorf("%v %v", c.order(), err)
 	}
 	c.prefer(given)
-	s.answers = map[string]string{"GET /members": `{"members":[{"id":2,"client":"h2:1"}]}`}
+	s.answer(map[string]string{"GET /members": `{"members":[{"id":2,"client":"h2:1"}]}`})
 	if err := c.Sync(background); err != nil || !reflect.DeepEqual(c.order(), []string{given, "http://h2:1"}) {
 		t.Errorf("%v %v", c.order(), err)
 	}
@@ -341,8 +364,8 @@ func TestTheLeaderIsAskedWhereItIsTold(t *testing.T) {
 	}))
 	defer other.Close()
 	c := newClient(t, Config{Servers: []string{other.URL}})
-	if _, err := c.AddMember(background, Member{ID: 4, Peer: "h4:2", Client: "h4:1"}); err != nil || turns != 1 || len(leader.asked) != 1 {
-		t.Errorf("%v after %d turns, the leader was asked %v", err, turns, leader.asked)
+	if _, err := c.AddMember(background, Member{ID: 4, Peer: "h4:2", Client: "h4:1"}); err != nil || turns != 1 || leader.requests() != 1 {
+		t.Errorf("%v after %d turns, the leader was asked %d times", err, turns, leader.requests())
 	}
 	if len(c.order()) != 1 {
 		t.Errorf("the leader stays: %v", c.order())
@@ -386,8 +409,8 @@ func TestABackupIsReadToItsEnd(t *testing.T) {
 			t.Fatal(err)
 		}
 		text, err := io.ReadAll(from)
-		if from.Close() != nil || err != nil || string(text) != "all of it\n" || s.asked[len(s.asked)-1] != it.asked {
-			t.Errorf("%q %v, asked %v", text, err, s.asked)
+		if asked, _, _ := s.last(); from.Close() != nil || err != nil || string(text) != "all of it\n" || asked != it.asked {
+			t.Errorf("%q %v, asked %s", text, err, asked)
 		}
 	}
 	broken := httptest.NewServer(http.HandlerFunc(func(w http.ResponseWriter, r *http.Request) {
@@ -402,7 +425,7 @@ func TestABackupIsReadToItsEnd(t *testing.T) {
 		t.Errorf("a part: %q %v", text, err)
 	}
 	from.Close()
-	s.answers = nil
+	s.answer(nil)
 	if _, err := c.Backup(background); err == nil {
 		t.Error("there is no backup, and it is read")
 	}

@@ -65,10 +65,12 @@ type Grant struct {
 }
 
 // Done is the command that reports the fragment on its target.
-func (g *Grant) Done() Command { return Done(g.Stripe, g.Fragment, g.Epoch) }
+func (g *Grant) Done() Command { return Commandf("done %d %d %d", g.Stripe, g.Fragment, g.Epoch) }
 
 // Abandon is the command that gives the lease back.
-func (g *Grant) Abandon() Command { return Abandon(g.Stripe, g.Fragment, g.Epoch) }
+func (g *Grant) Abandon() Command {
+	return Commandf("abandon %d %d %d", g.Stripe, g.Fragment, g.Epoch)
+}
 
 // A Reply is what a command was replied.
 type Reply struct {

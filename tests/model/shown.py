@@ -6,8 +6,9 @@ from tests.model import rules
 from tests.model.field import read_for
 from tests.model.rules import FRAGMENTS, is_recoverable, margin, members
 
-SERVED = ("status", "stripes", "nodes", "leases", "work")  # those that the service shows too
-VIEWS = (*SERVED, "fragments", "domains fault", "domains upgrade", "health", "capacity")  # the words after `show`
+# The words after `show` that the service shows too, with "-" in place of a space there.
+SERVED = ("status", "stripes", "nodes", "leases", "work", "fragments", "domains fault", "domains upgrade", "health")
+VIEWS = (*SERVED, "capacity")  # the words after `show`
 LEVELS = ("whole", "at_risk_margin_2", "at_risk_margin_1", "at_risk_margin_0", "unavailable", "lost")
 STRIPES = 4_096  # the number of stripe numbers
 DOMAINS = ["domain", "nodes", "online", "homes", "targets", "load", "slots", "stripes", *LEVELS]

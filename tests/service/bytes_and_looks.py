@@ -152,6 +152,7 @@ def test_calls_beside_looks(count, program, room, nodes):
         port, other = (group.members[it].client for it in (leader, leader % len(group.members) + 1))
         group.asker.ask(port, "PUT", "/books/other", harness.topology_of(nodes))
         place_stripes(port)
-        for book, path in ("p0", "/books/p0/show/stripes"), ("other", "/books/p0/show/stripes"), ("other", "/books/p0/image"):
+        for book, path in (("p0", "/books/p0/show/stripes"), ("p0", "/books/p0/show/health"), ("other", "/books/p0/show/stripes"),
+                           ("other", "/books/p0/image")):
             more = more_slow_beside(port, other, book, path)
             count.check(f"{more:.2f} more calls of {book} wait for each look at {path}", more < MOST_SLOW)

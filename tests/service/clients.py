@@ -108,8 +108,8 @@ class Caller(Client):
 
 
 # The looks at a book, by their paths below it.
-LOOKS = ["", "/show/leases", "/show/stripes", "/show/nodes", "/show/work", "/show/stripes?format=csv", "/image", "/nodes", "/workers",
-         "/peek?command=next", "/may-stop?node=3", "/may-lose?fault=2"]
+LOOKS = ["", "/show/leases", "/show/stripes", "/show/nodes", "/show/work", "/show/fragments", "/show/domains-fault", "/show/health",
+         "/show/stripes?format=csv", "/image", "/nodes", "/workers", "/peek?command=next", "/may-stop?node=3", "/may-lose?fault=2"]
 
 
 class Looker(Client):

@@ -267,7 +267,7 @@ def test_bodies(count, program, room, nodes):
 # Requests by chance.
 
 WORDS = ["books", "p0", "b1", "b2", "%2e%2e", "..", "a%00b", "x" * 70, "call", "nodes", "image", "log", "peek", "show", "status",
-         "stripes", "leases", "1", "4096", "workers", "may-stop", "may-lose", "recipe", "health", "metrics", "version", "members",
+         "stripes", "leases", "fragments", "domains-fault", "domains-upgrade", "1", "4096", "workers", "may-stop", "may-lose", "recipe", "health", "metrics", "version", "members",
          "leader", "0", "snapshot", "matrix", "events", "\xe9", "", "%", "*"]
 QUERIES = ["now=1", "now=2", "format=csv", "from=0", "follow=0", "session=9", "command=tick", "node=1", "fault=0", "code=wide",
            "stripe=1", "fragment=3", "missing=2", "%zz", "a=b&a=c", "key=k", "since=1"]
@@ -285,7 +285,8 @@ def request_by_chance(chance):
     """The bytes of one request, which may be none."""
     path = "/" + "/".join(chance.choice(WORDS) for _ in range(chance.randrange(1, 5)))
     if chance.random() < 0.4:
-        path = chance.choice(["/books/p0/call", "/books/p0/show/stripes", "/books/p0", "/books/b1", "/books/p0/log"])
+        path = chance.choice(["/books/p0/call", "/books/p0/show/stripes", "/books/p0/show/health", "/books/p0/show/domains-fault",
+                              "/books/p0/show/fragments", "/books/p0", "/books/b1", "/books/p0/log"])
     if chance.random() < 0.3:
         path += "?" + chance.choice(QUERIES)
     method = chance.choice(METHODS)

@@ -18,6 +18,25 @@ def wait_ready(asker, member, limit=10):
     return time.monotonic() - begun
 
 
+# The columns that are lists of numbers.
+LISTS = ("missing_fragments", "homeless_fragments", "sources", "first")
+
+
+def value_of(column, cell):
+    """A cell of a table as JSON has it."""
+    if column in LISTS:
+        return [int(it) for it in cell.split()]
+    if cell.isdecimal():
+        return int(cell)
+    return {"yes": True, "no": False, "-": None, "": None}.get(cell, cell)
+
+
+def json_of(text):
+    """The rows of a table as JSON has them."""
+    head, *rows = [line.split(",") for line in text.splitlines()]
+    return [{column: value_of(column, cell) for column, cell in zip(head, row)} for row in rows]
+
+
 def run_example(count, asker, member, name):
     """The script of an example, call by call, and then each table: all as the model has it."""
     topology, _ = harness.split(harness.example(name))
@@ -29,9 +48,15 @@ def run_example(count, asker, member, name):
         right = store.call(1, command)
         is_right = (status, told.get("n"), told.get("reply")) == (200, number, right)
         count.check(f"{name} {number}: {told}, and not {right}", is_right)
-    for view in shown.SERVED:
-        text = asker.ask(member.client, "GET", f"/books/{book}/show/{view}?format=csv")[2].decode()
-        count.check(f"{name}: show {view}: {text}", text == shown.shown(view, store, len(scripts[0])))
+    for view in shown.VIEWS:
+        path = f"/books/{book}/show/{view.replace(' ', '-')}"
+        text, right = asker.ask(member.client, "GET", f"{path}?format=csv")[2].decode(), shown.shown(view, store, len(scripts[0]))
+        count.check(f"{name}: show {view}: {text}", text == right)
+        rows = asker.json(member.client, "GET", path)[1].get("rows")
+        count.check(f"{name}: show {view} in JSON: {rows}", rows == json_of(right))
+    for row in shown.shown("stripes", store, 0).splitlines()[1:]:
+        text = asker.ask(member.client, "GET", f"/books/{book}/stripes/{row.split(',')[0]}?format=csv")[2].decode()
+        count.check(f"{name}: one stripe: {text}", text.splitlines()[1:] == [row])
     text = asker.ask(member.client, "GET", f"/books/{book}/image")[2].decode()
     count.check(f"{name}: image: {text}", text == store.image(len(scripts[0])))
     compare_recipes(count, asker, member, book, store)

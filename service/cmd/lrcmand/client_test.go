@@ -66,12 +66,8 @@ func cellOf(cell interface{}) string {
 			return it.String()
 		}
 		return "-"
-	case []uint8:
-		words := []string{}
-		for _, number := range it {
-			words = append(words, fmt.Sprint(number))
-		}
-		return strings.Join(words, " ")
+	case []uint8, []int:
+		return strings.Trim(fmt.Sprint(it), "[]")
 	}
 	return fmt.Sprint(cell)
 }
@@ -92,7 +88,7 @@ type typedLook struct {
 }
 
 func looksOf(t *testing.T, c *lrcmand.Client) []typedLook {
-	return append(showsOf(c), forecastsOf(t, c)...)
+	return append(append(showsOf(c), healthOf(c)), forecastsOf(t, c)...)
 }
 
 func forecastsOf(t *testing.T, c *lrcmand.Client) []typedLook {
@@ -115,6 +111,16 @@ func forecastsOf(t *testing.T, c *lrcmand.Client) []typedLook {
 			return outlooks(found), err
 		}},
 	}
+}
+
+func healthOf(c *lrcmand.Client) typedLook {
+	return typedLook{"/show/health", nil, func() (rows [][]interface{}, err error) {
+		found, _, err := c.ShowHealth(always, "p0")
+		for _, it := range found {
+			rows = append(rows, []interface{}{it.Reason, it.Count, it.First})
+		}
+		return rows, err
+	}}
 }
 
 func showsOf(c *lrcmand.Client) []typedLook {
@@ -173,7 +179,7 @@ func TestLooksOfTheClientAreTheTables(t *testing.T) {
 	for _, state := range []string{"rack", "harm", "upgrade"} {
 		compareLooks(t, newClient(t, state), rows)
 	}
-	for _, path := range []string{"/show/stripes", "/show/nodes", "/show/leases", "/show/work", "/may-stop", "/may-lose"} {
+	for _, path := range []string{"/show/stripes", "/show/nodes", "/show/leases", "/show/work", "/show/health", "/may-stop", "/may-lose"} {
 		if recorded.HasRules() && rows[path] == 0 {
 			t.Errorf("no state has a row of %s", path)
 		}
@@ -228,7 +234,7 @@ func TestChangesOfTheClientAreMadeOnce(t *testing.T) {
 				t.Fatal(err)
 			}
 		}
-		reply, err := c.Call(always, "p1", lrcmand.Tick(), lrcmand.WithKey("tick", sinceTick), lrcmand.WithSession(3), lrcmand.WithWorker("w7"))
+		reply, err := c.Call(always, "p1", "tick", lrcmand.WithKey("tick", sinceTick), lrcmand.WithSession(3), lrcmand.WithWorker("w7"))
 		if err != nil || reply.N != 1 || reply.Clock != 1 || reply.Again != isAgain {
 			t.Errorf("tick: %+v %v", reply, err)
 		}

@@ -61,7 +61,7 @@ type row struct {
 	parameters   string
 }
 
-var names = strings.NewReplacer("NAME", "{book}", "ID", "{id}", "WHAT", "{view}", "/S", "/{stripe}")
+var names = strings.NewReplacer("NAME", "{book}", "ID", "{id}", "TABLE", "{view}", "/S", "/{stripe}")
 
 // rowsOf are the requests of the table of docs/SERVICE.md.
 func rowsOf(t *testing.T) []row {

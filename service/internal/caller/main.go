@@ -43,9 +43,9 @@ type told struct {
 
 func (c *caller) command(number uint64) client.Command {
 	if c.isTick {
-		return client.Tick()
+		return "tick"
 	}
-	return client.Done(uint16(number%4096), 3, uint32(c.first+number))
+	return client.Commandf("done %d 3 %d", number%4096, uint32(c.first+number))
 }
 
 func (c *caller) work() {

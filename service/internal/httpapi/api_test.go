@@ -229,10 +229,10 @@ func TestBadRequestsAreRefusedByName(t *testing.T) {
 		{"POST", "/books/p0/call", `{"command":"tick","key":"a b"}`, 400, `the field "key"`},
 		{"POST", "/books/p0/call", `{"command":"tick","worker":"é"}`, 400, `the field "worker"`},
 		{"POST", "/books/p0/call", `{"command":"tick","at":1}`, 400, "come together"},
-		{"POST", "/books/p0/call", `{}`, 400, "the first word is not a command"},
-		{"POST", "/books/p0/call", `{"command":"place"}`, 400, "place takes another number of words"},
-		{"POST", "/books/p0/call", `{"command":"place 4096"}`, 400, "the stripe is out of its range, 0 to 4095: 4096"},
-		{"POST", "/books/p0/call", `{"command":"place 01"}`, 400, "the stripe is not a number"},
+		{"POST", "/books/p0/call", `{}`, 400, "this is a comment, or empty"},
+		{"POST", "/books/p0/call", `{"command":"place"}`, 400, `the command takes another number of words: "place"`},
+		{"POST", "/books/p0/call", `{"command":"place 4096"}`, 400, `a number is out of its range: "place 4096"`},
+		{"POST", "/books/p0/call", `{"command":"place 01"}`, 400, "an argument is not a number"},
 		{"POST", "/books/p0/call", `{"command":"tick","at":1,"opens":1024}`, 409, "the book stands at 0, and its opening is 1024"},
 		{"POST", "/books/p0/call?now=1", `{"command":"tick"}`, 400, `there is no parameter "now" here`},
 		{"POST", "/books/p0/call", `{"command":"` + strings.Repeat("x", 4096) + `"}`, 413, "more than 4096 bytes"},
@@ -246,7 +246,16 @@ func TestBadRequestsAreRefusedByName(t *testing.T) {
 		{"GET", "/books/p0?now=2", "", 400, `the parameter "now" has to be 0 or 1`},
 		{"GET", "/books/p0?now=1&now=1", "", 400, `the parameter "now" comes twice`},
 		{"GET", "/books/p0?%zz", "", 400, "the parameters can't be read"},
-		{"GET", "/books/p0/show/all", "", 404, "it has to be status, stripes, nodes, leases, work"},
+		{"GET", "/books/p0/show/all", "", 404, "it has to be status, stripes, nodes, leases, work, fragments, domains-fault, domains-upgrade, health"},
+		{"GET", "/books/p0/show/domains", "", 404, "there is no such table"},
+		{"GET", "/books/p0/show/domains%20fault", "", 404, "there is no such table"},
+		{"GET", "/books/p0/show/Health", "", 404, "there is no such table"},
+		{"GET", "/books/p0/show/domains-fault/1", "", 404, "there is nothing at this path"},
+		{"GET", "/books/p0/show/health%00", "", 404, "there is no such table"},
+		{"GET", "/books/p0/show/", "", 404, "there is no such table"},
+		{"POST", "/books/p0/show/health", "", 405, "this takes GET"},
+		{"GET", "/books/p0/show/health?now=2", "", 400, `the parameter "now" has to be 0 or 1`},
+		{"GET", "/books/p0/show/fragments?stripe=1", "", 400, `there is no parameter "stripe" here`},
 		{"GET", "/books/p0/show/status?format=xml", "", 400, "has to be csv or json"},
 		{"GET", "/books/p0/stripes/17", "", 404, "there is no stripe 17"},
 		{"GET", "/books/p0/stripes/4096", "", 400, "the stripe is out of its range"},
@@ -277,7 +286,7 @@ func TestBadRequestsAreRefusedByName(t *testing.T) {
 	}
 	s.expect("GET", "/books/p0/log", "", 200, "") // none of them was an entry
 	counts := s.api.refused.counts()
-	if counts[404] != 11 || counts[413] != 1 || counts[405] != 3 {
+	if counts[404] != 17 || counts[413] != 1 || counts[405] != 4 {
 		t.Errorf("counted: %v", counts)
 	}
 }
@@ -390,6 +399,28 @@ func TestALookIsOfUnknownAgeWhereNobodyAnswers(t *testing.T) {
 	s.refused("GET", "/health", "", 503, "there is no leader")
 }
 
+func TestTablesOfFragmentsAndDomainsAreThoseOfShow(t *testing.T) {
+	s := newService(t, nil)
+	for _, line := range []string{"place6 1", "fail 1", "lease 1 1", "drain 2", "down 3"} {
+		s.call(line)
+	}
+	fragments := "stripe,fragment,node,slot,fault,upgrade,state,mode,why,target,holder,epoch,expiry\n1,0,0,0,0,0,present,active,,,,,\n" +
+		"1,1,,,,,homeless,,,11:0,1,1,3\n1,2,2,0,2,2,present,draining,,,,,\n1,3,3,0,3,3,offline,active,down,,,,"
+	for f := 4; f < 10; f++ {
+		fragments += fmt.Sprintf("\n1,%d,%d,0,%d,%d,present,active,,,,,", f, f, f, f)
+	}
+	s.expect("GET", "/books/p0/show/fragments?format=csv", "", 200, fragments)
+	for path, row := range map[string]string{"show/domains-upgrade": "\n1,2,1,0,1,1,8,0,0,1,0,0,0,0\n", "show/domains-fault": "\n0,1,1,1,0,1,4,1,0,0,1,0,0,0\n"} {
+		if _, text := s.ask("GET", "/books/p0/"+path+"?format=csv", ""); !strings.Contains(text, row) {
+			t.Errorf("%s lacks %q: %s", path, row, text)
+		}
+	}
+	_, text := s.ask("GET", "/books/p0/show/health?now=1", "")
+	if !strings.Contains(text, `"rows":[{"reason":"margin_2","count":1,"first":[1]},{"reason":"waiting","count":1,"first":[1,2]}]}`) {
+		t.Error(text)
+	}
+}
+
 func TestTablesAreThoseOfShow(t *testing.T) {
 	s := newService(t, nil)
 	for _, line := range []string{"place6 1", "fail 1", "lease 1 1", "drain 2", "down 3"} {
@@ -401,6 +432,7 @@ func TestTablesAreThoseOfShow(t *testing.T) {
 			"\n1,narrow,risk,2,0x000a,1 3,0x0002,1,0:0,-,2:0,3:0,4:0,5:0,6:0,7:0,8:0,9:0,,,,,,",
 		"stripes/1": "stripe,code,level,margin,missing,missing_fragments,homeless,homeless_fragments," + homes +
 			"\n1,narrow,risk,2,0x000a,1 3,0x0002,1,0:0,-,2:0,3:0,4:0,5:0,6:0,7:0,8:0,9:0,,,,,,",
+		"show/health": "reason,count,first\nmargin_2,1,1\nwaiting,1,1 2",
 		"show/leases": "stripe,fragment,holder,target,epoch,expiry\n1,1,1,11:0,1,3",
 		"show/work":   "stripe,fragment,kind,sources,reads,standing,holder,epoch\n1,1,local,0 2 6,3,leased,1,1\n1,2,move,,1,open,,",
 		"may-stop?node=0&node=6": "stripe,code,level_before,margin_before,level_after,margin_after,missing_after,missing_fragments_after,leases_ended,harmed" +

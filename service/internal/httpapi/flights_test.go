@@ -196,8 +196,8 @@ func TestATableIsWrittenBesideCalls(t *testing.T) {
 	writes, called, done := make(chan struct{}), make(chan struct{}), make(chan struct{})
 	go func() {
 		defer close(done)
-		l.lookLong(q, func(*state.View, *sight) (func() []byte, error) {
-			return func() []byte { close(writes); <-called; return nil }, nil
+		l.lookLong(q, func(*state.View, *sight) (func() ([]byte, error), error) {
+			return func() ([]byte, error) { close(writes); <-called; return nil, nil }, nil
 		})
 	}()
 	<-writes

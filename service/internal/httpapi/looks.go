@@ -83,13 +83,13 @@ func (l *looks) endAt(q *request, now *freshness, at state.Position, err error) 
 
 // lookLong takes a look at all of the book of the path, or shares one, and tells how new it is. What the look returns makes the text
 // of what it has seen, beside calls.
-func (l *looks) lookLong(q *request, look func(*state.View, *sight) (func() []byte, error)) (sight, error) {
+func (l *looks) lookLong(q *request, look func(*state.View, *sight) (func() ([]byte, error), error)) (sight, error) {
 	if err := l.wait(q); err != nil {
 		return sight{}, err
 	}
 	name := q.names["book"]
 	found, err := l.flights.take(q.ctx, whatOf(q), func() (found sight, err error) {
-		var write func() []byte
+		var write func() ([]byte, error)
 		found.now = l.freshness()
 		err = l.state.Look(name, func(view *state.View) (err error) {
 			found.at = view.Position
@@ -97,7 +97,7 @@ func (l *looks) lookLong(q *request, look func(*state.View, *sight) (func() []by
 			return err
 		})
 		if err == nil {
-			found.text = write()
+			found.text, err = write()
 		}
 		return found, err
 	})
@@ -202,9 +202,9 @@ func (l *looks) nodes(q *request) error {
 }
 
 func (l *looks) image(q *request) error {
-	found, err := l.lookLong(q, func(view *state.View, _ *sight) (func() []byte, error) {
+	found, err := l.lookLong(q, func(view *state.View, _ *sight) (func() ([]byte, error), error) {
 		text, err := view.Image()
-		return func() []byte { return text }, err
+		return func() ([]byte, error) { return text, nil }, err
 	})
 	if err == nil {
 		q.write(http.StatusOK, "text/plain; charset=utf-8", found.text)
@@ -240,12 +240,12 @@ func (l *looks) peek(q *request) error {
 // isCSV tells whether a table is asked for as CSV, and not as JSON.
 func (q *request) isCSV() bool { return q.query.Get("format") == "csv" }
 
-// writerOf writes the rows of a table as a request asks for them.
-func writerOf(q *request, snapshot book.TableSnapshot) func() []byte {
+// rowsOf are the rows of a table as a request asks for them.
+func rowsOf(q *request, table *book.Table) []byte {
 	if q.isCSV() {
-		return func() []byte { return snapshot().CSV() }
+		return table.CSV()
 	}
-	return func() []byte { return snapshot().JSON() }
+	return table.JSON()
 }
 
 // sayTable answers with a table, whose rows are written.
@@ -273,9 +273,9 @@ func (l *looks) stripe(q *request) error {
 	if err != nil {
 		return bad("the stripe %v", err)
 	}
-	var snapshot book.TableSnapshot
+	var table *book.Table
 	now, at, err := l.look(q, func(view *state.View) (err error) {
-		snapshot, err = view.ShowStripe(uint16(stripe))
+		table, err = view.ShowStripe(uint16(stripe))
 		return err
 	})
 	if errors.Is(err, book.ErrNotFound) {
@@ -283,7 +283,7 @@ func (l *looks) stripe(q *request) error {
 	} else if err != nil {
 		return err
 	}
-	return q.sayTable(sight{at: at, now: now, text: writerOf(q, snapshot)()})
+	return q.sayTable(sight{at: at, now: now, text: rowsOf(q, table)})
 }
 
 func (l *looks) show(q *request) error { return l.table(q, q.names["view"]) }
@@ -292,9 +292,15 @@ func (l *looks) table(q *request, view string) error {
 	if !isView[view] {
 		return notFound("there is no such table; it has to be " + strings.Join(book.Views, ", "))
 	}
-	found, err := l.lookLong(q, func(it *state.View, _ *sight) (func() []byte, error) {
+	found, err := l.lookLong(q, func(it *state.View, _ *sight) (func() ([]byte, error), error) {
 		snapshot, err := it.Show(view)
-		return writerOf(q, snapshot), err
+		return func() ([]byte, error) {
+			table, err := snapshot()
+			if err != nil {
+				return nil, err
+			}
+			return rowsOf(q, table), nil
+		}, err
 	})
 	if err != nil {
 		return err
@@ -354,10 +360,10 @@ func (l *looks) forecast(q *request, outage book.Outage) error {
 	if len(selected.Nodes)+len(selected.Faults)+len(selected.Upgrades) == 0 {
 		return bad("name a node, a fault or an upgrade")
 	}
-	found, err := l.lookLong(q, func(view *state.View, found *sight) (func() []byte, error) {
-		snapshot, isSafe, err := view.ShowForecast(outage, selected)
+	found, err := l.lookLong(q, func(view *state.View, found *sight) (func() ([]byte, error), error) {
+		table, isSafe, err := view.ShowForecast(outage, selected)
 		found.isSafe = &isSafe
-		return writerOf(q, snapshot), err
+		return func() ([]byte, error) { return rowsOf(q, table), nil }, err
 	})
 	if err != nil {
 		return err

@@ -31,6 +31,23 @@ type View struct {
 	bookEntry *bookEntry
 }
 
+// Show takes what a table of the book is made of.
+func (v *View) Show(name string) (book.TableSnapshot, error) { return v.Book.Show(name, v.Nodes) }
+
+// Health takes what the table of health is made of, as rows; the copy of the book in which it is looked up is opened later, beside
+// calls.
+func (v *View) Health() (func() ([]book.Reason, error), error) {
+	copied, err := v.Copied(v.Nodes)
+	return func() ([]book.Reason, error) {
+		c, err := copied()
+		if err != nil {
+			return nil, err
+		}
+		defer c.Close()
+		return c.Health()
+	}, err
+}
+
 // Entries returns entries behind a place, at most so many, and fewer at the seam of those that the book has; none only if there
 // are none. The error is a Forgotten if the first of them is not in memory.
 func (v *View) Entries(place uint64, most int) ([]book.Entry, error) {
