@@ -126,7 +126,7 @@ def test_go(count, library):
         expect_quiet(count, "staticcheck", go(library, f"{program} $(go_packages)"))
     else:
         left_out("staticcheck", "there is none: Debian's go-staticcheck has it")
-    ran = go(library, "go test -race -count=1 $(go_packages)")
+    ran = go(library, "go test -race -count=1 -timeout 1h $(go_packages)")
     for line in ran.stdout.splitlines():
         words = line.split()
         if words[:1] == ["ok"] or words[:1] == ["FAIL"] and len(words) > 1:

@@ -24,6 +24,7 @@ func newMonitoring(e engine.Engine, books *state.State, from metrics.Sources) *m
 	ctx, stop := context.WithCancel(context.Background())
 	watcher := survey.NewWatcher(survey.OfState(books), time.Now)
 	go watcher.Watch(ctx)
+	go watcher.WatchHealth(ctx)
 	from.Watcher, from.Status, from.Refusal, from.Differs = watcher, e.Status, book.RefusalName, books.Differs
 	return &monitoring{
 		metrics: metrics.New(from),

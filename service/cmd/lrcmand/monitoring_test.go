@@ -118,6 +118,9 @@ func TestAMemberShowsWhatItDoes(t *testing.T) {
 	if recorded.HasRules() {
 		want[`lrcmand_stripes{book="p0",level="risk",margin="1"}`] = b.Value("at_risk_margin_1")
 		want[`lrcmand_work_fragments{book="p0",standing="open"}`] = b.Standing("open")
+		for _, row := range b.Reasons {
+			want[fmt.Sprintf(`lrcmand_health{book="p0",reason=%q}`, row.Reason)] = row.Count
+		}
 		for cause, count := range b.Counts {
 			command, reply, _ := strings.Cut(cause, " ")
 			want[fmt.Sprintf(`lrcmand_commands_total{book="p0",command=%q,reply=%q}`, command, reply)] = int(count)

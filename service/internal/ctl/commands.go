@@ -10,7 +10,6 @@ import (
 	"text/tabwriter"
 	"time"
 
-	"lrcman/service/book"
 	"lrcman/service/client"
 )
 
@@ -90,11 +89,9 @@ func (s *session) status([]string) error {
 	}
 	books := map[string]map[string]interface{}{}
 	for _, row := range list {
-		var values table
-		if err := s.look(bookPath(row.Name, "/show/status"), nil, &values); err != nil {
+		if books[row.Name], err = s.standing(row.Name); err != nil {
 			return err
 		}
-		books[row.Name] = valuesOf(values)
 	}
 	if s.isJSON() {
 		return json.NewEncoder(s.out).Encode(map[string]interface{}{"member": json.RawMessage(member.Raw), "books": books})
@@ -108,14 +105,28 @@ func (s *session) status([]string) error {
 	rows := [][]string{{"BOOK", "HEALTH", "STRIPES", "WHOLE", "MARGIN 2", "1", "0", "UNAVAILABLE", "LOST", "MISSING", "LEASES", "UPGRADING", "ENTRIES"}}
 	for _, row := range list {
 		v := books[row.Name]
-		cells := []string{row.Name, healthOf(v)}
-		for _, name := range []string{"stripes", "whole", "at_risk_margin_2", "at_risk_margin_1", "at_risk_margin_0", "unavailable", "lost",
+		cells := []string{row.Name}
+		for _, name := range []string{"health", "stripes", "whole", "at_risk_margin_2", "at_risk_margin_1", "at_risk_margin_0", "unavailable", "lost",
 			"missing_fragments", "leases", "upgrading", "entries"} {
 			cells = append(cells, textOf(v[name]))
 		}
 		rows = append(rows, cells)
 	}
 	return s.print(rows)
+}
+
+// standing are the values of the table of status, and the word of that of health.
+func (s *session) standing(name string) (map[string]interface{}, error) {
+	var status, health table
+	if err := s.look(bookPath(name, "/show/status"), nil, &status); err != nil {
+		return nil, err
+	}
+	if err := s.look(bookPath(name, "/show/health"), nil, &health); err != nil {
+		return nil, err
+	}
+	values := valuesOf(status)
+	values["health"] = wordOf(health)
+	return values, nil
 }
 
 // valuesOf are the rows of a table of names and values.
@@ -127,14 +138,50 @@ func valuesOf(t table) map[string]interface{} {
 	return values
 }
 
-// healthOf is how a book fares, in a word. The table has no work, so it is healthy where the page may say that it is moving.
-func healthOf(values map[string]interface{}) string {
-	number := func(name string) int {
-		count, _ := values[name].(float64)
-		return int(count)
+// wordOf is how a book fares, in a word: the first reason of the table of health.
+func wordOf(health table) string {
+	if len(health.Rows) == 0 {
+		return "-"
 	}
-	return book.Levels{Lost: number("lost"), Unavailable: number("unavailable"),
-		AtRisk: [3]int{number("at_risk_margin_0"), number("at_risk_margin_1"), number("at_risk_margin_2")}}.Health()
+	return textOf(health.Rows[0]["reason"])
+}
+
+// isDanger are the reasons of health with which `lrcman show health` ends with status 4.
+var isDanger = map[string]bool{"lost": true, "unavailable": true, "margin_0": true}
+
+// health prints the table of health. It ends as `lrcman show health` does.
+func (s *session) health(words []string) error {
+	var found table
+	text, err := s.get(bookPath(words[0], "/show/health"), s.isNow())
+	if err != nil {
+		return err
+	}
+	if err := json.Unmarshal(text, &found); err != nil || len(found.Rows) == 0 {
+		return fmt.Errorf("the answer to /show/health is not what lrcmand answers: %.80q", text)
+	}
+	rows, inDanger := [][]string{{"reason", "count", "first"}}, false
+	for _, row := range found.Rows {
+		inDanger = inDanger || isDanger[textOf(row["reason"])]
+		rows = append(rows, []string{textOf(row["reason"]), textOf(row["count"]), textOf(row["first"])})
+	}
+	if s.isJSON() {
+		err = s.show(text)
+	} else {
+		err = s.print(rows)
+	}
+	if err == nil && inDanger {
+		err = errHarm
+	}
+	return err
+}
+
+// isNow are the parameters of a look that may have to be as of now.
+func (s *session) isNow() url.Values {
+	values := url.Values{}
+	if s.now {
+		values.Set("now", "1")
+	}
+	return values
 }
 
 // textOf is a value of JSON as a table prints it.
@@ -211,11 +258,7 @@ func (s *session) lead(words []string) error {
 
 // table prints a table with the columns of `lrcman show`.
 func (s *session) table(words []string) error {
-	book, what := words[0], words[1]
-	values := url.Values{}
-	if s.now {
-		values.Set("now", "1")
-	}
+	book, what, values := words[0], strings.Join(words[1:], "-"), s.isNow()
 	path := bookPath(book, "/show/"+url.PathEscape(what))
 	if what == "workers" {
 		path = bookPath(book, "/workers")

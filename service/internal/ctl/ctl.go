@@ -23,7 +23,7 @@ const (
 	Failed  = 1 // nobody answered, or the service could not do it
 	Usage   = 2 // the words are not those of a command
 	Refused = 3 // the rules refused a command
-	Harm    = 4 // a stripe would be harmed
+	Harm    = 4 // a stripe is in danger, or would be harmed
 )
 
 type options struct {
@@ -47,7 +47,7 @@ func usagef(form string, values ...interface{}) error {
 // errRefused and errHarm end with a status of their own; what there is to say was printed.
 var (
 	errRefused = errors.New("the command is refused")
-	errHarm    = errors.New("a stripe would be harmed")
+	errHarm    = errors.New("a stripe is in danger, or would be harmed")
 )
 
 const help = `usage: lrcmand ctl [OPTIONS] COMMAND
@@ -56,7 +56,10 @@ const help = `usage: lrcmand ctl [OPTIONS] COMMAND
   books                         the books
   members                       the members of the group
   lead ID                       makes a member the leader, and prints the members once it is
-  table BOOK WHAT               WHAT: status, stripes, nodes, leases, work or workers
+  health BOOK                   each reason why not all is well. Status 4: a stripe is lost, unavailable
+                                or at margin 0
+  table BOOK WHAT               WHAT: status, stripes, nodes, leases, work, fragments, domains fault,
+                                domains upgrade, health or workers
   call BOOK COMMAND..           makes one command, as call p0 lease 17 3, and prints the reply
   ok-to-stop BOOK NODE..        status 0: these may be stopped at once; 4: a stripe would be harmed.
                                 fault N.. and upgrade N.. name whole domains
@@ -76,7 +79,7 @@ var commands map[string]command
 
 func init() {
 	commands = map[string]command{"status": {0, 0, (*session).status}, "books": {0, 0, (*session).books}, "members": {0, 0, (*session).members},
-		"table": {2, 2, (*session).table}, "call": {2, -1, (*session).call}, "ok-to-stop": {2, -1, (*session).okToStop},
+		"table": {2, 3, (*session).table}, "health": {1, 1, (*session).health}, "call": {2, -1, (*session).call}, "ok-to-stop": {2, -1, (*session).okToStop},
 		"drain": {2, 2, (*session).drain}, "watch": {1, 1, (*session).watch}, "lead": {1, 1, (*session).lead}}
 }
 

@@ -54,8 +54,12 @@ func (s *service) ServeHTTP(w http.ResponseWriter, r *http.Request) {
 			`{"id":4,"peer":"h4:7422","client":"h4:7421","learner":true,"promote":true,"leader":false}]}`,
 		"/books/p0/show/status": `{"n":17,"opens":1,"index":89,"age_ms":1,"rows":[{"name":"stripes","value":60},{"name":"whole","value":59},` +
 			`{"name":"at_risk_margin_2","value":1},{"name":"lost","value":0},{"name":"upgrading","value":"none"},{"name":"entries","value":17}]}`,
-		"/books/p0/workers": `{"n":17,"opens":1,"index":89,"age_ms":1,"rows":[{"stripe":1,"fragment":3,"epoch":2,"worker":"w7"}]}`,
-		"/books/p0/log":     `{"n":18,"session":2,"command":"lease 1 3","reply":"refused 110 1","kind":"refused","refusal":110,"name":"already leased","detail":1}` + "\n\n" + `{"n":19,"session":1,"command":"tick","reply":"ticked 1 0","kind":"ticked"}`,
+		"/books/p0/show/health": `{"n":17,"opens":1,"index":89,"age_ms":1,"rows":[{"reason":"margin_2","count":1,"first":[7]},` +
+			`{"reason":"waiting","count":2,"first":[7,3]}]}`,
+		"/books/harm/show/health": `{"n":17,"opens":1,"rows":[{"reason":"margin_0","count":1,"first":[7]}]}`,
+		"/books/none/show/health": `{"n":17,"opens":1,"rows":[]}`,
+		"/books/p0/workers":       `{"n":17,"opens":1,"index":89,"age_ms":1,"rows":[{"stripe":1,"fragment":3,"epoch":2,"worker":"w7"}]}`,
+		"/books/p0/log":           `{"n":18,"session":2,"command":"lease 1 3","reply":"refused 110 1","kind":"refused","refusal":110,"name":"already leased","detail":1}` + "\n\n" + `{"n":19,"session":1,"command":"tick","reply":"ticked 1 0","kind":"ticked"}`,
 	}
 	switch {
 	case r.Method == "POST" && r.URL.Path == "/leader/1":
@@ -67,6 +71,8 @@ func (s *service) ServeHTTP(w http.ResponseWriter, r *http.Request) {
 		s.call(w, r)
 	case r.URL.Path == "/books/p0/show/leases" && r.URL.Query().Get("format") == "csv":
 		io.WriteString(w, "stripe,fragment,holder,target,epoch,expiry\n1,3,2,17:0,1,3\n")
+	case r.URL.Path == "/books/p0/show/domains-fault" && r.URL.Query().Get("format") == "csv":
+		io.WriteString(w, "domain,nodes\n7,2\n")
 	case r.URL.Path == "/books/p0/show/nodes":
 		load := s.loads[0]
 		if len(s.loads) > 1 {
@@ -163,7 +169,7 @@ func TestEachCommandHasItsStatusAndWords(t *testing.T) {
 		out    []string
 		err    string
 	}{
-		{"status", 0, []string{"member 2 of 3 at ", "leader 1, term 7, applied 89 of 90", "p0    degraded  60       59     1"}, ""},
+		{"status", 0, []string{"member 2 of 3 at ", "leader 1, term 7, applied 89 of 90", "p0    margin_2  60       59     1"}, ""},
 		{"books", 0, []string{"BOOK  ENTRIES  OPENED\np0    17       1\n"}, ""},
 		{"books -o json", 0, []string{`{"index":89,"age_ms":1,"books":[{"name":"p0","n":17,"opens":1}]}` + "\n"}, ""},
 		{"lead 1", 0, []string{"1       h1:7422      h1:7421      leads\n"}, ""},
@@ -172,6 +178,13 @@ func TestEachCommandHasItsStatusAndWords(t *testing.T) {
 		{"members", 0, []string{"1       h1:7422      h1:7421      leads\n2       -            h2:7421      votes\n" +
 			"3       h3:7422      h3:7421      learns\n4       h4:7422      h4:7421      learns, and votes once it has all\n"}, ""},
 		{"table p0 leases", 0, []string{"stripe  fragment  holder  target  epoch  expiry\n1       3         2       17:0    1      3\n"}, ""},
+		{"table p0 domains fault", 0, []string{"domain  nodes\n7       2\n"}, ""},
+		{"table p0 domains fault 1", 2, nil, "table takes another number of words"},
+		{"health p0", 0, []string{"reason    count  first\nmargin_2  1      7\nwaiting   2      7 3\n"}, ""},
+		{"health harm", 4, []string{"margin_0  1      7\n"}, ""},
+		{"health harm -o json", 4, []string{`"reason":"margin_0"`}, ""},
+		{"health none", 1, nil, "is not what lrcmand answers"},
+		{"health p9", 1, nil, "there is no such book"},
 		{"table p0 workers", 0, []string{"1       3         2      w7\n"}, ""},
 		{"table p0 lease", 1, nil, "there is no such book (404 from http://"},
 		{"table p9 leases", 1, nil, "there is no such book"},

@@ -64,6 +64,9 @@ func labelsByMetric(t *testing.T) map[string]map[string]bool {
 		all[name] = b
 	}
 	watcher.Step()
+	if _, err := watcher.Health("rack"); err != nil {
+		t.Fatal(err)
+	}
 	if err := os.WriteFile(filepath.Join(folder, "one.snap"), nil, 0o600); err != nil {
 		t.Fatal(err)
 	}

@@ -176,23 +176,26 @@ var (
 
 // The metrics of a book.
 var (
-	entriesDesc   = desc("entries_total", "Entries of the book.", "book")
-	clockDesc     = desc("ticks_total", "Ticks of the book's clock.", "book")
-	commandsDesc  = desc("commands_total", "Commands applied since this member began, by command and reply.", "book", "command", "reply")
-	refusalsDesc  = desc("refusals_total", "Commands that the rules refused since this member began.", "book", "refusal", "name")
-	expiredDesc   = desc("leases_expired_total", "Leases that ended by a tick since this member began.", "book")
-	missedDesc    = desc("commands_unseen_total", "Commands that the book forgot before they were counted.", "book")
-	stripesDesc   = desc("stripes", "Stripes, by level and by how many further losses they survive.", "book", "level", "margin")
-	missingDesc   = desc("missing_fragments", "Fragments without a home on an online node.", "book")
-	homelessDesc  = desc("homeless_fragments", "Fragments without any home.", "book")
-	workDesc      = desc("work_fragments", "Fragments that need a lease, by standing.", "book", "standing")
-	leasesDesc    = desc("leases", "Live leases, by age in ticks. A lease ends at the third.", "book", "age_ticks")
-	oldestDesc    = desc("lease_oldest_seconds", "Time since the oldest live lease was granted, or first seen; 0: no lease.", "book")
-	nodesDesc     = desc("nodes", "Nodes, by mode.", "book", "mode")
-	downDesc      = desc("nodes_down", "Nodes that are reported down.", "book")
-	onlineDesc    = desc("nodes_online", "Nodes that are online.", "book")
-	seatsDesc     = desc("domain_held_seats", "Homes and targets in a fault or upgrade domain.", "book", "kind", "domain")
-	slotsDesc     = desc("domain_slots", "Slots of the nodes in a fault or upgrade domain.", "book", "kind", "domain")
+	entriesDesc  = desc("entries_total", "Entries of the book.", "book")
+	clockDesc    = desc("ticks_total", "Ticks of the book's clock.", "book")
+	commandsDesc = desc("commands_total", "Commands applied since this member began, by command and reply.", "book", "command", "reply")
+	refusalsDesc = desc("refusals_total", "Commands that the rules refused since this member began.", "book", "refusal", "name")
+	expiredDesc  = desc("leases_expired_total", "Leases that ended by a tick since this member began.", "book")
+	missedDesc   = desc("commands_unseen_total", "Commands that the book forgot before they were counted.", "book")
+	stripesDesc  = desc("stripes", "Stripes, by level and by how many further losses they survive.", "book", "level", "margin")
+	missingDesc  = desc("missing_fragments", "Fragments without a home on an online node.", "book")
+	homelessDesc = desc("homeless_fragments", "Fragments without any home.", "book")
+	workDesc     = desc("work_fragments", "Fragments that need a lease, by standing.", "book", "standing")
+	leasesDesc   = desc("leases", "Live leases, by age in ticks. A lease ends at the third.", "book", "age_ticks")
+	oldestDesc   = desc("lease_oldest_seconds", "Time since the oldest live lease was granted, or first seen; 0: no lease.", "book")
+	nodesDesc    = desc("nodes", "Nodes, by mode.", "book", "mode")
+	downDesc     = desc("nodes_down", "Nodes that are reported down.", "book")
+	onlineDesc   = desc("nodes_online", "Nodes that are online.", "book")
+	seatsDesc    = desc("domain_held_seats", "Homes and targets in a fault or upgrade domain.", "book", "kind", "domain")
+	slotsDesc    = desc("domain_slots", "Slots of the nodes in a fault or upgrade domain.", "book", "kind", "domain")
+	healthDesc   = desc("health", "What the table of health counts, by reason; of a book in which all is well the reason ok, with 0.",
+		"book", "reason")
+	healthAtDesc  = desc("health_entries", "Entries of the book when its health was made.", "book")
 	upgradingDesc = desc("upgrading", "1 if an upgrade domain is upgrading.", "book")
 	costDesc      = desc("survey_duration_seconds", "How long the last survey of the book took.", "book")
 )
@@ -200,7 +203,8 @@ var (
 var descs = []*prometheus.Desc{leaderDesc, isLeaderDesc, membersDesc, termDesc, commitDesc, appliedDesc, snapDesc, firstDesc,
 	writtenDesc, brokenDesc, booksDesc, differDesc, waitingDesc, freeDesc, reserveDesc, readOnlyDesc, expiryDesc,
 	entriesDesc, clockDesc, commandsDesc, refusalsDesc, expiredDesc, missedDesc, stripesDesc, missingDesc, homelessDesc,
-	workDesc, leasesDesc, oldestDesc, nodesDesc, downDesc, onlineDesc, seatsDesc, slotsDesc, upgradingDesc, costDesc}
+	workDesc, leasesDesc, oldestDesc, nodesDesc, downDesc, onlineDesc, seatsDesc, slotsDesc, healthDesc, healthAtDesc, upgradingDesc,
+	costDesc}
 
 // Describe tells which metrics there are.
 func (c *collector) Describe(to chan<- *prometheus.Desc) {
@@ -314,6 +318,7 @@ func (c *collector) book(t teller, name string) *survey.Report {
 		return nil // (the other books are still told)
 	}
 	counts(t, c.Watcher.Counts(name), c.Refusal)
+	health(t, c.Watcher.Known(name))
 	stand(t, report)
 	t.gauge(costDesc, c.Watcher.Cost(name).Seconds())
 	return report
@@ -348,6 +353,17 @@ func counts(t teller, counts survey.Counts, word func(uint8) string) {
 	}
 	t.counter(expiredDesc, counts.Expired)
 	t.counter(missedDesc, counts.Missed)
+}
+
+// health is told once it was made: the reasons that hold.
+func health(t teller, known *survey.Health) {
+	if known == nil {
+		return
+	}
+	t.gauge(healthAtDesc, float64(known.N))
+	for _, row := range known.Reasons {
+		t.gauge(healthDesc, float64(row.Count), row.Reason)
+	}
 }
 
 func stand(t teller, r *survey.Report) {

@@ -83,6 +83,41 @@ func valueOf(metric *dto.Metric) float64 {
 	return float64(metric.Histogram.GetSampleCount())
 }
 
+func withPrefix(samples map[string]float64, prefix string) (found []string) {
+	for sample := range samples {
+		if strings.HasPrefix(sample, prefix) {
+			found = append(found, sample)
+		}
+	}
+	return found
+}
+
+// Health is told once it was made: the reasons of the model that hold, and no others.
+func TestHealthIsToldAsTheModelHasIt(t *testing.T) {
+	all := books(t)
+	m, watcher := metricsOf(all, "")
+	if told := withPrefix(values(t, m), "lrcmand_health"); len(told) > 0 {
+		t.Errorf("health is told before it was made: %v", told)
+	}
+	for name, b := range all {
+		if _, err := watcher.Health(name); err != nil {
+			t.Fatal(err)
+		}
+		got, want := values(t, m), map[string]int{fmt.Sprintf("lrcmand_health_entries{book=%q}", name): len(b.Lines)}
+		for _, row := range b.Reasons {
+			want[fmt.Sprintf("lrcmand_health{book=%q,reason=%q}", name, row.Reason)] = row.Count
+		}
+		for sample, value := range want {
+			if have, isThere := got[sample]; !isThere || have != float64(value) {
+				t.Errorf("%s is %v, and the model has %d", sample, have, value)
+			}
+		}
+		if told := withPrefix(got, fmt.Sprintf("lrcmand_health{book=%q", name)); len(told) != len(b.Reasons) {
+			t.Errorf("%v, and the model has the reasons %v", told, b.Reasons)
+		}
+	}
+}
+
 func TestBooksAreCountedAsTheModelCountsThem(t *testing.T) {
 	all := books(t)
 	none := recorded.Books{}

@@ -7,6 +7,7 @@ import (
 	"net/http/httptest"
 	"os"
 	"path/filepath"
+	"reflect"
 	"regexp"
 	"strconv"
 	"strings"
@@ -82,12 +83,14 @@ func TestTheBrowserShowsTheNumbersOfTheModel(t *testing.T) {
 	}
 }
 
-var words = map[string]string{"quiet": "Healthy", "rack": "Degraded", "upgrade": "Degraded", "harm": "Lost", "most": "Degraded"}
+var words = map[string]string{"quiet": "Ok", "rack": "Margin 1", "upgrade": "Margin 1", "harm": "Lost", "most": "Margin 2"}
 
 func checkDOM(t *testing.T, name, dom string, b *recorded.Book) {
 	if !strings.Contains(dom, `<p id="word" aria-live="polite">`+words[name]+"</p>") {
 		t.Errorf("%s: the page does not say %s", name, words[name])
 	}
+	checkReasons(t, name, dom, b)
+	checkShares(t, name, dom, b)
 	if isUpgrading := strings.Contains(dom, "Upgrade domain "+b.Status["upgrading"]+" is upgrading"); isUpgrading != (b.Status["upgrading"] != "none") {
 		t.Errorf("%s: the page tells of the upgrade of %s: %v", name, b.Status["upgrading"], isUpgrading)
 	}
@@ -133,6 +136,55 @@ func checkDOM(t *testing.T, name, dom string, b *recorded.Book) {
 	last := b.Lines[len(b.Lines)-1]
 	if !strings.Contains(dom, "<code>"+last.Command+"</code>") || !strings.Contains(dom, "<code>"+last.Reply+"</code>") {
 		t.Errorf("%s: the last command is not shown: %+v", name, last)
+	}
+}
+
+// rowsIn are the cells of the table in an element of the page.
+func rowsIn(dom, id string) (rows [][]string) {
+	_, part, _ := strings.Cut(dom, `id="`+id+`"`)
+	part, _, _ = strings.Cut(part, "</section>")
+	_, body, _ := strings.Cut(part, "<tbody>")
+	body, _, _ = strings.Cut(body, "</tbody>")
+	for _, row := range strings.Split(body, "<tr>")[1:] {
+		var cells []string
+		for _, match := range regexp.MustCompile(`<td[^>]*>(.*?)</td>`).FindAllStringSubmatch(row, -1) {
+			cells = append(cells, match[1])
+		}
+		rows = append(rows, cells)
+	}
+	return rows
+}
+
+// checkReasons compares the reasons with those of the model.
+func checkReasons(t *testing.T, name, dom string, b *recorded.Book) {
+	var want [][]string
+	for _, row := range b.Reasons {
+		if row.Reason != "ok" {
+			want = append(want, []string{strings.ReplaceAll(row.Reason, "_", " "), fmt.Sprint(row.Count), strings.Trim(fmt.Sprint(row.First), "[]")})
+		}
+	}
+	if shown := rowsIn(dom, "reasons"); !reflect.DeepEqual(shown, want) {
+		t.Errorf("%s: the page shows the reasons %v, and the model has %v", name, shown, want)
+	}
+}
+
+// checkShares looks whether each fault domain is there once, with the sums of its nodes, the fullest first.
+func checkShares(t *testing.T, name, dom string, b *recorded.Book) {
+	load, slots := map[string]int{}, map[string]int{}
+	for _, node := range b.Nodes {
+		fault := fmt.Sprint(node.Fault)
+		load[fault], slots[fault] = load[fault]+int(node.Load), slots[fault]+int(node.Slots)
+	}
+	rows, before := rowsIn(dom, "shares"), 2.0
+	if len(rows) != len(slots) {
+		t.Errorf("%s: the page has %d fault domains, and the model %d", name, len(rows), len(slots))
+	}
+	for _, row := range rows {
+		share := float64(load[row[0]]) / float64(slots[row[0]])
+		if row[3] != fmt.Sprint(load[row[0]]) || row[4] != fmt.Sprint(slots[row[0]]) || row[5] != fmt.Sprintf("%.1f %%", share*100) || share > before {
+			t.Errorf("%s: the page shows %v of fault domain %s, with %d of %d", name, row, row[0], load[row[0]], slots[row[0]])
+		}
+		before = share
 	}
 }
 

@@ -31,6 +31,10 @@ func TestASurveyOfTheLibraryIsThatOfTheModel(t *testing.T) {
 				return a.Stripe < b.Stripe || a.Stripe == b.Stripe && a.Fragment < b.Fragment
 			})
 		}
+		health, err := survey.NewWatcher(survey.OfState(s), c.time).Health(name)
+		if err != nil || !reflect.DeepEqual(health.Reasons, b.Reasons) || health.N != uint64(len(b.Lines)) {
+			t.Errorf("%s: the library has the health %+v, and the model %+v; %v", name, health, b.Reasons, err)
+		}
 		if !reflect.DeepEqual(got, want) {
 			t.Errorf("%s: the library has %+v, and the model has %+v", name, got, want)
 		}

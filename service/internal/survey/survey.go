@@ -3,10 +3,8 @@
 package survey
 
 import (
-	"fmt"
 	"math/bits"
 	"sort"
-	"strings"
 	"time"
 
 	"lrcman/service/book"
@@ -26,6 +24,8 @@ type View interface {
 	Entries(place uint64, most int) ([]book.Entry, error)
 	Upgrading() (uint8, bool)
 	Clock() uint32
+	// Health takes what the table of health is made of; the rows are made later, beside calls.
+	Health() (func() ([]book.Reason, error), error)
 }
 
 // Books are the books of one member, by name.
@@ -53,19 +53,12 @@ type Report struct {
 	N         uint64  `json:"n"`
 	Opens     uint64  `json:"opens"`
 	Clock     uint32  `json:"clock"`
-	Health    Health  `json:"health"`
 	Stripes   Stripes `json:"stripes"`
 	Work      Work    `json:"work"`
 	Nodes     []Node  `json:"nodes"`
 	Risks     []Risk  `json:"risks"`
 	Leases    []Lease `json:"leases"`
 	Upgrading *uint8  `json:"upgrading"` // the upgrade domain; nil: none
-}
-
-// A Health is how a book fares, in a word and in a sentence.
-type Health struct {
-	Word string `json:"word"`
-	Why  string `json:"why"`
 }
 
 // Stripes are numbers of stripes by level, and of fragments that are missing.
@@ -152,7 +145,6 @@ func take(name string, v View) (*Report, error) {
 	if err := report.stripes(v, draining); err != nil {
 		return nil, err
 	}
-	report.Health = report.health()
 	return report, nil
 }
 
@@ -296,27 +288,4 @@ func (w *Work) add(v View, key book.FragmentID, leased map[book.FragmentID]bool)
 		w.Unrecoverable++
 	}
 	return nil
-}
-
-func (r *Report) health() Health {
-	s := r.Stripes
-	why := []string{}
-	say := func(count int, one, many string) {
-		if count == 1 {
-			why = append(why, "1 "+one)
-		} else if count > 1 {
-			why = append(why, fmt.Sprintf("%d %s", count, many))
-		}
-	}
-	say(s.Lost, "stripe is lost", "stripes are lost")
-	say(s.Unavailable, "stripe is unavailable", "stripes are unavailable")
-	for margin, count := range s.AtRisk {
-		say(count, fmt.Sprintf("stripe has margin %d", margin), fmt.Sprintf("stripes have margin %d", margin))
-	}
-	say(r.Work.All(), "fragment waits for repair or a move", "fragments wait for repair or a move")
-	if len(why) == 0 {
-		why = append(why, "every stripe is whole and nothing is to be moved")
-	}
-	levels := book.Levels{Lost: s.Lost, Unavailable: s.Unavailable, AtRisk: s.AtRisk}
-	return Health{levels.HealthWithWork(r.Work.All()), strings.Join(why, ", ")}
 }

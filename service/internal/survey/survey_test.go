@@ -1,12 +1,12 @@
 package survey_test
 
 import (
+	"context"
 	"fmt"
 	"reflect"
 	"testing"
 	"time"
 
-	"lrcman/service/book"
 	"lrcman/service/internal/survey"
 	"lrcman/service/internal/survey/recorded"
 )
@@ -71,13 +71,47 @@ func TestAReportCountsWhatTheModelCounts(t *testing.T) {
 	}
 }
 
-func TestTheStatesReachEachWordButTwo(t *testing.T) {
-	want := map[string]string{"quiet": book.Healthy, "rack": book.Degraded, "upgrade": book.Degraded, "harm": book.Lost.String(),
-		"most": book.Degraded}
+func TestHealthIsThatOfTheModel(t *testing.T) {
+	want := map[string]string{"quiet": "ok", "rack": "margin_1", "upgrade": "margin_1", "harm": "lost", "most": "margin_2"}
 	for name, word := range want {
-		if r := report(t, newClock().watch(recorded.Books{name: load(t, name)}), name); r.Health.Word != word {
-			t.Errorf("%s is %s (%s), and should be %s", name, r.Health.Word, r.Health.Why, word)
+		b := load(t, name)
+		w := newClock().watch(recorded.Books{name: b})
+		if known := w.Known(name); known != nil {
+			t.Errorf("%s: %+v is known before it was made", name, known)
 		}
+		health, err := w.Health(name)
+		if err != nil || health.Word != word || health.N != uint64(len(b.Lines)) || !reflect.DeepEqual(health.Reasons, b.Reasons) {
+			t.Errorf("%s: %+v, and the model has %s, %v; %v", name, health, word, b.Reasons, err)
+		}
+	}
+	if health, err := newClock().watch(recorded.Books{}).Health("none"); err == nil {
+		t.Errorf("a book that is not there has the health %+v", health)
+	}
+}
+
+func TestHealthIsMadeAnewWhereABookHasChanged(t *testing.T) {
+	rack, quiet := load(t, "rack"), load(t, "quiet")
+	rack.Show(40)
+	w := newClock().watch(recorded.Books{"rack": rack, "quiet": quiet})
+	first, err := w.Health("rack")
+	if err != nil || first.N != 40 {
+		t.Fatal(first, err)
+	}
+	rack.Show(50)
+	if again, err := w.Health("rack"); err != nil || again != first {
+		t.Errorf("whoever asks waits for a new one: %+v, %v", again, err)
+	}
+	ctx, stop := context.WithCancel(context.Background())
+	ended := make(chan struct{})
+	go func() { defer close(ended); w.WatchHealth(ctx) }()
+	before, _ := w.Health("quiet")
+	for known := first; known.N != 50 || w.Known("quiet") == nil; known = w.Known("rack") {
+		time.Sleep(time.Millisecond)
+	}
+	stop()
+	<-ended
+	if now := w.Known("quiet"); now != before {
+		t.Errorf("that of a book that is as it was is made anew: %p and not %p", now, before)
 	}
 }
 

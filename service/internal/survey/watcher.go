@@ -29,6 +29,8 @@ type Watcher struct {
 	mu    sync.Mutex // of the map
 	of    map[string]*track
 	isOld bool // the first step is over: a book that comes now is new
+
+	health sync.Mutex // held while the health of a book is made: of one at a time
 }
 
 // A Cause is a command with the kind of its reply.
@@ -83,6 +85,7 @@ type track struct {
 	report *Report
 	made   time.Time // when the report was
 	cost   time.Duration
+	health *Health
 }
 
 // NewWatcher makes a watcher of books, with a clock.

@@ -40,7 +40,7 @@ class Recording:
     def state(self):
         store = self.store
         rows = {view: [line.split(",") for line in shown.shown(view, store, len(self.entries)).splitlines()[1:]]
-                for view in shown.SERVED}
+                for view in ("status", "stripes", "nodes", "leases", "work", "health")}
         counts = {}
         for entry in self.entries:
             cause = entry["command"].split(" ")[0] + " " + entry["reply"].split(" ")[0]
@@ -50,7 +50,9 @@ class Recording:
             "stripes": [self.stripe(row) for row in rows["stripes"]],
             "leases": [{"stripe": int(s), "fragment": int(f), "session": int(h), "target": t, "epoch": int(e), "expiry": int(x),
                         "worker": self.workers.get(f"{s} {f} {e}", "")} for s, f, h, t, e, x in rows["leases"]],
-            "work": [{"stripe": int(r[0]), "fragment": int(r[1]), "kind": r[2], "standing": r[4]} for r in rows["work"]],
+            "work": [{"stripe": int(r[0]), "fragment": int(r[1]), "kind": r[2], "standing": r[5]} for r in rows["work"]],
+            "health": [{"reason": reason, "count": int(count), "first": [int(it) for it in first.split()]}
+                       for reason, count, first in rows["health"]],
             "counts": counts, "entries": self.entries,
         }
 

@@ -29,6 +29,7 @@ type Book struct {
 	Stripes []Stripe          `json:"stripes"`
 	Leases  []Lease           `json:"leases"`
 	Tasks   []Task            `json:"work"`
+	Reasons []book.Reason     `json:"health"`
 	Counts  map[string]uint64 `json:"counts"` // by command and reply
 	Lines   []Line            `json:"entries"`
 }
@@ -242,6 +243,10 @@ func (v view) Clock() uint32 { return uint32(v.Value("clock")) }
 func (v view) Upgrading() (uint8, bool) {
 	domain, err := strconv.ParseUint(v.Status["upgrading"], 10, 8)
 	return uint8(domain), err == nil
+}
+
+func (v view) Health() (func() ([]book.Reason, error), error) {
+	return func() ([]book.Reason, error) { return v.Reasons, nil }, nil
 }
 
 var (
