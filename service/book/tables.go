@@ -47,7 +47,8 @@ func ready(text []byte) TableSnapshot {
 // A view is a table of a book.
 type view struct {
 	number C.uint8_t
-	isLong bool // it takes longer than an image of the book
+	isLong bool // it may take longer than an image of the book
+	isSlow bool // it takes seconds where there are many fault domains
 	room   int  // for its text, in most books
 }
 
@@ -55,18 +56,33 @@ type view struct {
 var Views = []string{"status", "stripes", "nodes", "leases", "work", "fragments", "domains-fault", "domains-upgrade", "health"}
 
 var views = map[string]view{
-	"status": {C.LRC_SHOW_STATUS, false, 1 << 12}, "stripes": {C.LRC_SHOW_STRIPES, true, 1 << 20},
-	"nodes": {C.LRC_SHOW_NODES, false, 1 << 16}, "leases": {C.LRC_SHOW_LEASES, false, 1 << 18},
-	"work": {C.LRC_SHOW_WORK, false, 1 << 18}, "fragments": {C.LRC_SHOW_FRAGMENTS, true, 1 << 22},
-	"domains-fault": {C.LRC_SHOW_DOMAINS_FAULT, true, 1 << 16}, "domains-upgrade": {C.LRC_SHOW_DOMAINS_UPGRADE, true, 1 << 16},
-	"health": {C.LRC_SHOW_HEALTH, true, 1 << 12},
+	"status": {C.LRC_SHOW_STATUS, false, false, 1 << 12}, "stripes": {C.LRC_SHOW_STRIPES, true, false, 1 << 20},
+	"nodes": {C.LRC_SHOW_NODES, true, false, 1 << 16}, "leases": {C.LRC_SHOW_LEASES, false, false, 1 << 18},
+	"work": {C.LRC_SHOW_WORK, false, false, 1 << 18}, "fragments": {C.LRC_SHOW_FRAGMENTS, true, false, 1 << 22},
+	"domains-fault": {C.LRC_SHOW_DOMAINS_FAULT, true, true, 1 << 16}, "health": {C.LRC_SHOW_HEALTH, true, true, 1 << 12},
+	"domains-upgrade": {C.LRC_SHOW_DOMAINS_UPGRADE, true, false, 1 << 16},
 }
+
+// TakesLong tells whether a table is to be made of a copy of the book, one for many of these.
+func TakesLong(name string) bool { return views[name].isLong && !views[name].isSlow }
+
+// Table is a table of the book as it is.
+func (b *Book) Table(name string) (*Table, error) {
+	of, isThere := views[name]
+	if !isThere {
+		return nil, noTable(name)
+	}
+	text, err := b.table(of)
+	return &Table{text}, err
+}
+
+func noTable(name string) error { return fmt.Errorf("there is no table %q", name) }
 
 // Show takes what a table is made of. One that would take long is made of a copy of the book, over the nodes of its text.
 func (b *Book) Show(name string, nodes []byte) (TableSnapshot, error) {
 	view, isThere := views[name]
 	if !isThere {
-		return nil, fmt.Errorf("there is no table %q", name)
+		return nil, noTable(name)
 	}
 	if !view.isLong {
 		text, err := b.table(view)

@@ -162,7 +162,7 @@ func TestALongTextHasAllItsBytes(t *testing.T) {
 			t.Fatal(name, err)
 		}
 		for _, room := range []int{0, 1, len(whole) - 1, len(whole), len(whole) + 1} {
-			if text, err := b.table(view{views[name].number, false, room}); err != nil || string(text) != string(whole) {
+			if text, err := b.table(view{views[name].number, false, false, room}); err != nil || string(text) != string(whole) {
 				t.Errorf("%s with room for %d: %q, %v", name, room, text, err)
 			}
 		}

@@ -26,6 +26,7 @@ import tempfile
 
 from tests.harness import TOP
 from tests.service import measures
+from tests.service.cluster import place
 from tests.service.measures import median
 
 SERVICE = os.path.join(TOP, "service")
@@ -131,7 +132,8 @@ def main(words):
         room = measures.Room(*build(options.library, folder), folder, scale, options.seed)
         print(f"seed {options.seed}, {os.cpu_count()} cores, load {os.getloadavg()[0]:.1f}", flush=True)
         for part in options.only.split(","):
-            PARTS[part](room, has_etcd)
+            with place(folder) as room.folder:
+                PARTS[part](room, has_etcd)
     for fault in room.faults:
         print(f"wrong: {fault}")
     return 1 if room.faults else 0

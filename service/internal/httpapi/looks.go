@@ -84,21 +84,29 @@ func (l *looks) endAt(q *request, now *freshness, at state.Position, err error) 
 // lookLong takes a look at all of the book of the path, or shares one, and tells how new it is. What the look returns makes the text
 // of what it has seen, beside calls.
 func (l *looks) lookLong(q *request, look func(*state.View, *sight) (func() ([]byte, error), error)) (sight, error) {
-	if err := l.wait(q); err != nil {
-		return sight{}, err
-	}
 	name := q.names["book"]
-	found, err := l.flights.take(q.ctx, whatOf(q), func() (found sight, err error) {
+	return l.lookTogether(q, func(found *sight) error {
 		var write func() ([]byte, error)
-		found.now = l.freshness()
-		err = l.state.Look(name, func(view *state.View) (err error) {
+		err := l.state.Look(name, func(view *state.View) (err error) {
 			found.at = view.Position
-			write, err = look(view, &found)
+			write, err = look(view, found)
 			return err
 		})
 		if err == nil {
 			found.text, err = write()
 		}
+		return err
+	})
+}
+
+// lookTogether takes a long look at the book of the path, or shares one, and tells how new it is.
+func (l *looks) lookTogether(q *request, look func(*sight) error) (sight, error) {
+	if err := l.wait(q); err != nil {
+		return sight{}, err
+	}
+	found, err := l.flights.take(q.ctx, whatOf(q), func() (found sight, err error) {
+		found.now = l.freshness()
+		err = look(&found)
 		return found, err
 	})
 	if err == error(errTooManyLooks) {
@@ -292,15 +300,13 @@ func (l *looks) table(q *request, view string) error {
 	if !isView[view] {
 		return notFound("there is no such table; it has to be " + strings.Join(book.Views, ", "))
 	}
-	found, err := l.lookLong(q, func(it *state.View, _ *sight) (func() ([]byte, error), error) {
-		snapshot, err := it.Show(view)
-		return func() ([]byte, error) {
-			table, err := snapshot()
-			if err != nil {
-				return nil, err
-			}
-			return rowsOf(q, table), nil
-		}, err
+	name := q.names["book"]
+	found, err := l.lookTogether(q, func(found *sight) (err error) {
+		var table *book.Table
+		if table, found.at, err = l.state.Table(name, view); err == nil {
+			found.text = rowsOf(q, table)
+		}
+		return err
 	})
 	if err != nil {
 		return err
@@ -360,10 +366,15 @@ func (l *looks) forecast(q *request, outage book.Outage) error {
 	if len(selected.Nodes)+len(selected.Faults)+len(selected.Upgrades) == 0 {
 		return bad("name a node, a fault or an upgrade")
 	}
-	found, err := l.lookLong(q, func(view *state.View, found *sight) (func() ([]byte, error), error) {
-		table, isSafe, err := view.ShowForecast(outage, selected)
-		found.isSafe = &isSafe
-		return func() ([]byte, error) { return rowsOf(q, table), nil }, err
+	name := q.names["book"]
+	found, err := l.lookTogether(q, func(found *sight) error {
+		return l.state.LookLong(name, func(b *book.Book, at state.Position) error {
+			table, isSafe, err := b.ShowForecast(outage, selected)
+			if found.at, found.isSafe = at, &isSafe; err == nil {
+				found.text = rowsOf(q, table)
+			}
+			return err
+		})
 	})
 	if err != nil {
 		return err

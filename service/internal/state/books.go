@@ -32,6 +32,7 @@ type bookEntry struct {
 	tail     []book.Entry // the last entries before those that the book has
 	holders  map[book.FragmentID]holding
 	grown    chan struct{} // closed at the next entry
+	shadow   shadow        // for looks that take long; it has a lock of its own
 	removed  chan struct{} // closed when it is removed
 }
 

@@ -67,6 +67,7 @@ type State struct {
 	group   group
 	freezes []*freeze // the snapshots that are being written
 	digests map[string]*digest
+	shadows shadows
 }
 
 // Knobs are what tests, and a program that is built with the tag faulty, do otherwise. Those that are zero change nothing.
