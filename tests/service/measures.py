@@ -155,6 +155,7 @@ def takeovers(room, has_etcd):
     found = defaultdict(list)
     with room.group("takeover", 3) as group:
         make_books(group, 1)
+        settle(group)  # (a member that lacks the book tells clients an index from before its keys)
         for _ in range(room.scale.kills):
             number, told = silence(room, "tick", [address(group, it) for it in group.members], group.leader, kill_of(group))
             found["lrcmand"].append(told)

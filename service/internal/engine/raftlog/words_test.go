@@ -67,6 +67,7 @@ func TestTheLogOfTheProcessTellsOfRefusedCertificatesSeldom(t *testing.T) {
 	}
 	ctx, cancel := context.WithTimeout(context.Background(), long)
 	defer cancel()
+	begun := time.Now()
 	for i := 0; i < 30; i++ {
 		dialer := tls.Dialer{Config: &tls.Config{InsecureSkipVerify: true, Certificates: []tls.Certificate{pair}}}
 		if c, err := dialer.DialContext(ctx, "tcp", g.configs[1].Self.Peer); err == nil {
@@ -76,7 +77,8 @@ func TestTheLogOfTheProcessTellsOfRefusedCertificatesSeldom(t *testing.T) {
 		}
 	}
 	expectSaid(t, words, "TLS handshake error")
-	if said := strings.Count(words.String(), "TLS handshake error"); said > 11 {
-		t.Errorf("it is said %d times", said)
+	windows := 1 + int(time.Since(begun)/(10*time.Second)) // each has ten lines, and one of what was left out
+	if said := strings.Count(words.String(), "TLS handshake error"); said > 11*windows {
+		t.Errorf("it is said %d times in %v", said, time.Since(begun))
 	}
 }
