@@ -24,7 +24,7 @@ RANGES = {"session": (1, 8), "kind": (1, 18), "stripe": (0, 4095), "fragment": (
           "domain": (0, 255), "epoch": (0, 4294967295), "index": (0, 18446744073709551615),
           "place": (0, 18446744073709551615), "outage": (1, 2),
           "code": (1, 2), "set of fragments": (0, 65535),
-          "number of a word": (0, 255), "view": (1, 9)}
+          "number of a word": (0, 255), "view": (1, 10)}
 
 
 def done_or_fault(call):

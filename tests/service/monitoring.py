@@ -22,14 +22,14 @@ scrape_configs:
   - job_name: the-group
     static_configs: [{{targets: ['127.0.0.1:{port}', 'localhost:{port}', '127.0.0.1:{nobody}']}}]
 """
-# The commands that lead to each state of the store in turn, and the word for its health.
+# The commands that lead to each state of the store in turn: healthy, moving, degraded, critical, unavailable, lost.
 STATES = (
-    (["place 1", "place6 2", "place 3"], "healthy"),
-    (["drain 5", "next"], "moving"),
-    (["fail 5"], "degraded"),
-    (["fail 0", "fail 1", "next", "tick", "next"], "critical"),
-    (["down 2", "down 6"], "unavailable"),
-    (["fail 2", "fail 6"], "lost"),
+    ["place 1", "place6 2", "place 3"],
+    ["drain 5", "next"],
+    ["fail 5"],
+    ["fail 0", "fail 1", "next", "tick", "next"],
+    ["down 2", "down 6"],
+    ["fail 2", "fail 6"],
 )
 
 
@@ -78,7 +78,7 @@ class Prometheus:
         self.process.wait()
 
     def console(self):
-        """The word of health, and the cells of each row by the first words of its table; nothing, if there is no page."""
+        """The reasons of health, and the cells of each row by the first words of its table; nothing, if there is no page."""
         self.asker.close()
         status, _, text = self.asker.ask(self.port, "GET", "/consoles/lrcmand.html")
         if status != 200:
@@ -146,9 +146,9 @@ def awaited(prometheus, is_right):
     return is_well, *found
 
 
-def check_state(count, prometheus, store, health):
+def check_state(count, prometheus, store):
     """The console comes to show what the model has."""
-    right = wanted(store)
+    right, health = wanted(store), " ".join(sorted(row[0] for row in shown.health_rows(store)))
     is_well, word, tables = awaited(prometheus, lambda word, tables: word == health and seen(tables) == right)
     count.check(f"the console shows {word} {seen(tables)}, and not {health} {right}", is_well)
 
@@ -158,7 +158,7 @@ def check_members(count, prometheus):
     def is_right(_, tables):
         rows = {answers: row for _, answers, *row in tables.get("Member", ())}
         there, away = rows.get("yes", [""] * 5), rows.get("no", [])
-        is_there = there[:2] + there[3:] == ["yes", "0", "256MiB", "yes"] and re.fullmatch(r"[0-9.]+[KMGTP]iB", there[2])
+        is_there = there[:2] + there[3:] == ["yes", "0", "1MiB", "yes"] and re.fullmatch(r"[0-9.]+[KMGTP]iB", there[2])
         return is_there and away == [""] * 5 and len(tables["Member"]) == 3
 
     is_well, _, tables = awaited(prometheus, is_right)
@@ -168,18 +168,18 @@ def check_members(count, prometheus):
 def test_console(count, program, room):
     nodes = harness.nodes_in_order(20, 4)
     store, asker = Store(nodes), Asker(30)
-    with Group(program, f"{room}/monitored", 1, ["--tick", "0"]) as group:
+    with Group(program, f"{room}/monitored", 1, ["--tick", "0", "--disk-reserve", "1048576"]) as group:
         member = group.members[1]
         wait_ready(asker, member, LIMIT)
         asker.ask(member.client, "PUT", f"/books/{BOOK}", harness.topology_of(nodes))
         with Prometheus(room, member.client) as prometheus:
-            for commands, health in STATES:
+            for commands in STATES:
                 asker.close()  # (a connection that waited may be closed within a call)
                 for command in commands:
                     told = asker.json(member.client, "POST", f"/books/{BOOK}/call", {"command": command})[1]
                     right = store.call(1, command)
                     count.check(f"{command}: {told}, and not {right}", told.get("reply") == right)
-                check_state(count, prometheus, store, health)
+                check_state(count, prometheus, store)
             check_members(count, prometheus)
             end = time.monotonic() + LIMIT
             while (told := prometheus.rules())[0] and time.monotonic() < end:
