@@ -18,6 +18,7 @@ from tests.service.cluster import Asker, Group, Member
 from tests.service.fake_group import FAULTS, NOTHING, FakeGroup
 from tests.service.network import Network, ways_between
 from tests.service.one_member import wait_ready
+from tests.service.work import asked_for
 
 SERVICE = os.path.join(TOP, "service")
 lrcmand_client = loaded(f"{SERVICE}/client/lrcmand_client.py")
@@ -319,11 +320,18 @@ def break_answers(clients, network):
     network.calm()
 
 
+def await_book(group):
+    """Waits until each member has the book, so that none that is behind tells a client that there is none."""
+    for member in group.members.values():
+        asked_for(lambda: group.asker.ask(member.client, "GET", f"/books/{BOOK}/show/status?format=csv")[:2], [200])
+
+
 def test_clients(count, program, caller, room, nodes):
     group = Group(program, f"{room}/clients", 3, WORDS)
     with Network(group, 7) as network, group:
         group.leader()
         Client([f"127.0.0.1:{port}" for port in group.ports()]).create(BOOK, topology_of(nodes))
+        await_book(group)
         clients = Clients(group, caller)
         cut_off(count, clients, network)
         kill_leader(count, clients)
