@@ -279,6 +279,7 @@ pub const LRC_SHOW_DOMAINS_FAULT: u8 = 7;
 pub const LRC_SHOW_DOMAINS_UPGRADE: u8 = 8;
 /// each reason why not all is well
 pub const LRC_SHOW_HEALTH: u8 = 9;
+/// how many more stripes of each code would be placed, and why no more
 pub const LRC_SHOW_CAPACITY: u8 = 10;
 
 // lrc_outage: What happens to nodes.
