@@ -1,3 +1,4 @@
 mod Plans
 mod Readers
 pub mod SidesKept
+pub mod WriterSteps

@@ -37,8 +37,7 @@ use std::marker::Model;
 pub struct Rows {
     /// By stripe number.
     list: Vec<Option<Row>>,
-    /// By stripe number, the fragments that need a lease, as bits; 0 for a stripe that does not exist. A copy, so that a
-    /// walk in the order of repair reads no rows.
+    /// By stripe number, the fragments that need a lease, as bits; 0 for no stripe. A copy: a walk by rank reads no rows.
     needs: Vec<u16>,
     /// The stripes that exist. A copy, so that a test reads no row.
     there: StripeSet,
@@ -170,8 +169,7 @@ impl Rows {
         self.work.relist(stripe, rank);
     }
 
-    /// Sets the home of a fragment of an existing stripe, or clears it, and sets the domains and the losses of the stripe. The
-    /// code stays.
+    /// Sets or clears the home of a fragment of an existing stripe, and sets its domains and losses. The code stays.
     pub fn set_home(
         &mut self,
         stripe: StripeNo,
@@ -312,8 +310,7 @@ impl Rows {
         }
     }
 
-    /// The level of a stripe; `Whole` for a stripe that does not exist. The masks of the rows must
-    /// be kept, and the upgrading domains be those of the nodes.
+    /// The level of a stripe; `Whole` for none. The masks must be kept, and the upgrading domains those of the nodes.
     pub fn level(&self, node_table: &NodeTable, stripe: StripeNo) -> Level
         requires kept { IsKept (states_in node_table.now) (rows_in self.now.list) }
         requires upgrading { AreUpgrading node_table.now.list self.now.upgrading }

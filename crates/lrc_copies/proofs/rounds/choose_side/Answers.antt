@@ -1,6 +1,6 @@
 use Rattle.std.proofs.Common.{rules}
 use Rattle.lrc_copies.specs.Sides.{plan_of}
-use Rattle.lrc_copies.proofs.SidesKept.{chooses}
+use Rattle.lrc_copies.proofs.WriterSteps.{chooses}
 use Rattle.lrc_copies.proofs.rounds.choose_side.Goals as goal
 
 pub store-requires : goal.store-requires

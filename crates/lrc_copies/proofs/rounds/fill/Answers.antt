@@ -4,7 +4,7 @@ use Rattle.lrc_copies.specs.Sides.{plan_of, count_at, counted}
 use Rattle.lrc_copies.specs.declared.table.Plan.{Plan}
 use Rattle.lrc_copies.specs.declared.table.Role.TheVariants.{Writer}
 use Rattle.lrc_copies.proofs.Plans.{count_of_counted, counted_now, counted_again, counted_sized}
-use Rattle.lrc_copies.proofs.SidesKept.{reaches, fills}
+use Rattle.lrc_copies.proofs.WriterSteps.{reaches, fills}
 use Rattle.lrc_copies.proofs.rounds.fill.Goals as goal
 
 pub loop-reader-init : goal.loop-reader-init

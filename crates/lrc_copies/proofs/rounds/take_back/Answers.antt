@@ -4,7 +4,7 @@ use Rattle.lrc_copies.specs.Sides.{Names, plan_of, count_at, counted}
 use Rattle.lrc_copies.specs.declared.table.Plan.{Plan}
 use Rattle.lrc_copies.specs.declared.table.Role.TheVariants.{Writer}
 use Rattle.lrc_copies.proofs.Plans.{counted_sized}
-use Rattle.lrc_copies.proofs.SidesKept.{gathers, empties}
+use Rattle.lrc_copies.proofs.WriterSteps.{gathers, empties}
 use Rattle.lrc_copies.proofs.rounds.take_back.Goals as goal
 
 pub load-told-requires : goal.load-told-requires
