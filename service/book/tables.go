@@ -48,19 +48,20 @@ func ready(text []byte) TableSnapshot {
 type view struct {
 	number C.uint8_t
 	isLong bool // it may take longer than an image of the book
-	isSlow bool // it takes seconds where there are many fault domains
+	isSlow bool // it takes so long for some books that no other look is to wait for it
 	room   int  // for its text, in most books
 }
 
 // Views are the tables of a book: those that `lrcman show` prints, with their words joined.
-var Views = []string{"status", "stripes", "nodes", "leases", "work", "fragments", "domains-fault", "domains-upgrade", "health"}
+var Views = []string{"status", "stripes", "nodes", "leases", "work", "fragments", "domains-fault", "domains-upgrade", "health",
+	"capacity"}
 
 var views = map[string]view{
 	"status": {C.LRC_SHOW_STATUS, false, false, 1 << 12}, "stripes": {C.LRC_SHOW_STRIPES, true, false, 1 << 20},
 	"nodes": {C.LRC_SHOW_NODES, true, false, 1 << 16}, "leases": {C.LRC_SHOW_LEASES, false, false, 1 << 18},
 	"work": {C.LRC_SHOW_WORK, false, false, 1 << 18}, "fragments": {C.LRC_SHOW_FRAGMENTS, true, false, 1 << 22},
 	"domains-fault": {C.LRC_SHOW_DOMAINS_FAULT, true, true, 1 << 16}, "health": {C.LRC_SHOW_HEALTH, true, true, 1 << 12},
-	"domains-upgrade": {C.LRC_SHOW_DOMAINS_UPGRADE, true, false, 1 << 16},
+	"domains-upgrade": {C.LRC_SHOW_DOMAINS_UPGRADE, true, false, 1 << 16}, "capacity": {C.LRC_SHOW_CAPACITY, true, true, 1 << 12},
 }
 
 // TakesLong tells whether a table is to be made of a copy of the book, one for many of these.

@@ -87,6 +87,21 @@ func TestTablesAreOfTheWholeBook(t *testing.T) {
 	}
 }
 
+// What takes long is made of a copy over the text of the nodes, beside calls: without nodes there is none.
+func TestLongTablesAreMadeOfACopy(t *testing.T) {
+	isShort := map[string]bool{"status": true, "leases": true, "work": true}
+	b := various(t)
+	for _, view := range Views {
+		snapshot, err := b.Show(view, nil)
+		if err != nil {
+			t.Fatal(view, err)
+		}
+		if _, err := snapshot(); (err == nil) != isShort[view] {
+			t.Errorf("%s over no nodes: %v", view, err)
+		}
+	}
+}
+
 // checkJSON compares the rows of JSON with those of CSV.
 func checkJSON(t *testing.T, view string, found *Table) {
 	t.Helper()

@@ -96,8 +96,8 @@ func (c *Client) Books(ctx context.Context, given ...Option) ([]Book, Look, erro
 // A Row is a row of a table: its columns, as JSON has them.
 type Row map[string]interface{}
 
-// Table is a table of `show`: status, stripes, nodes, leases, work, fragments, domains-fault, domains-upgrade or health. ShowStatus
-// and so on have some of them in types.
+// Table is a table of `show`: status, stripes, nodes, leases, work, fragments, domains-fault, domains-upgrade, health or capacity.
+// ShowStatus and so on have some of them in types.
 func (c *Client) Table(ctx context.Context, book, view string, given ...Option) ([]Row, Look, error) {
 	var told struct {
 		Rows []Row `json:"rows"`
@@ -299,6 +299,28 @@ func (c *Client) ShowHealth(ctx context.Context, book string, given ...Option) (
 		Rows []Reason `json:"rows"`
 	}
 	look, err := c.show(ctx, book, "health", given, &told)
+	return told.Rows, look, err
+}
+
+// A Capacity is a row of the table of capacity: how many more stripes of a code would be placed, and why no more.
+type Capacity struct {
+	Code      string `json:"code"` // wide or narrow
+	Stripes   int    `json:"stripes"`
+	Fragment  *uint8 `json:"fragment"`   // that finds no node then; nil, as the next five, where the numbers of stripes run out
+	NotActive *int   `json:"not_active"` // nodes that can't take it, each counted by the first reason
+	Offline   *int   `json:"offline"`
+	Full      *int   `json:"full"`
+	Fault     *int   `json:"fault_domain"`
+	Upgrade   *int   `json:"upgrade_domain"`
+	FreeSlots int    `json:"free_slots"` // that stay free then, on nodes that take fragments
+}
+
+// ShowCapacity is how much more fits into a book, for each code by itself.
+func (c *Client) ShowCapacity(ctx context.Context, book string, given ...Option) ([]Capacity, Look, error) {
+	var told struct {
+		Rows []Capacity `json:"rows"`
+	}
+	look, err := c.show(ctx, book, "capacity", given, &told)
 	return told.Rows, look, err
 }
 

@@ -84,6 +84,9 @@ var sample = map[string]string{
 		`"holder":2,"epoch":1},{"stripe":2,"fragment":0,"kind":"global","sources":[],"reads":null,"standing":"open","holder":null,"epoch":null}]}`,
 	"GET /books/p0/show/health": `{"rows":[{"reason":"margin_2","count":3,"first":[7]},{"reason":"waiting","count":1,"first":[7,3]},` +
 		`{"reason":"slots","count":5,"first":[]}]}`,
+	"GET /books/p0/show/capacity": `{"rows":[{"code":"wide","stripes":3,"fragment":12,"not_active":2,"offline":1,"full":17,"fault_domain":4,` +
+		`"upgrade_domain":5,"free_slots":60},{"code":"narrow","stripes":4000,"fragment":null,"not_active":null,"offline":null,"full":null,` +
+		`"fault_domain":null,"upgrade_domain":null,"free_slots":7}]}`,
 	"GET /books/p0/workers": `{"rows":[{"stripe":1,"fragment":3,"epoch":2,"worker":"w7"}]}`,
 	"GET /books/p0/recipe":  `{"code":"wide","missing_fragments":[3],"rows":[{"fragment":0,"coefficient":200,"home":"7:1"}]}`,
 	"GET /matrix":           `{"code":"narrow","rows":[[1,0],[0,255]]}`,
@@ -109,7 +112,10 @@ const members = `{"members":[{"id":1,"peer":"h1:2","client":"h1:1","leader":true
 // seats are those of the stripe above.
 var seats = []*Seat{{7, 1}, nil, {8, 0}, {9, 0}, {1, 0}, {2, 0}, {3, 0}, {4, 0}, {5, 0}, {300, 65535}}
 
-var epochOne = uint32(1)
+var (
+	epochOne = uint32(1)
+	twelve   = uint8(12)
+)
 
 // Each look asks for its path, and has what the answer says in types.
 func TestEachLookIsReadIntoTypes(t *testing.T) {
@@ -129,6 +135,9 @@ func TestEachLookIsReadIntoTypes(t *testing.T) {
 		{"GET /books/p0/show/stripes", func() (any, Look, error) { return three(c.ShowStripes(background, "p0")) }, []Stripe{theStripe}},
 		{"GET /books/p0/show/health", func() (any, Look, error) { return three(c.ShowHealth(background, "p0")) },
 			[]Reason{{"margin_2", 3, []int{7}}, {"waiting", 1, []int{7, 3}}, {"slots", 5, []int{}}}},
+		{"GET /books/p0/show/capacity?now=1", func() (any, Look, error) { return three(c.ShowCapacity(background, "p0", WithNow())) },
+			[]Capacity{{"wide", 3, &twelve, pointer(2), pointer(1), pointer(17), pointer(4), pointer(5), 60},
+				{"narrow", 4000, nil, nil, nil, nil, nil, nil, 7}}},
 		{"GET /books/p0/stripes/5", func() (any, Look, error) { return three(c.ShowStripe(background, "p0", 5)) }, theStripe},
 		{"GET /books/p0/show/nodes", func() (any, Look, error) { return three(c.ShowNodes(background, "p0")) },
 			[]Node{{300, 1, 2, "draining", true, false, false, 3, 1, 4, 64}}},

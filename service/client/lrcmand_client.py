@@ -312,8 +312,7 @@ class Client:
         return self.get(_of(book, "/image"), now=now)
 
     def show(self, book: str, view: str, now: bool = False) -> list[dict[str, Any]]:
-        """The rows of a table: status, stripes, nodes, leases or work. Stripes have `homes`, too: a list of (node, slot) or None.
-        """
+        """The rows of a table of `show`, as stripes or capacity. Stripes have `homes`, too: a list of (node, slot) or None."""
         rows = self._look(_of(book, f"/show/{quote(view, safe='')}"), now=now)["rows"]
         return [_with_homes(row) for row in rows] if view == "stripes" else rows
 

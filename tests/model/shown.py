@@ -6,9 +6,8 @@ from tests.model import rules
 from tests.model.field import read_for
 from tests.model.rules import FRAGMENTS, is_recoverable, margin, members
 
-# The words after `show` that the service shows too, with "-" in place of a space there.
-SERVED = ("status", "stripes", "nodes", "leases", "work", "fragments", "domains fault", "domains upgrade", "health")
-VIEWS = (*SERVED, "capacity")  # the words after `show`
+# The words after `show`. The service shows all of them, with "-" in place of a space there.
+VIEWS = ("status", "stripes", "nodes", "leases", "work", "fragments", "domains fault", "domains upgrade", "health", "capacity")
 LEVELS = ("whole", "at_risk_margin_2", "at_risk_margin_1", "at_risk_margin_0", "unavailable", "lost")
 STRIPES = 4_096  # the number of stripe numbers
 DOMAINS = ["domain", "nodes", "online", "homes", "targets", "load", "slots", "stripes", *LEVELS]

@@ -267,7 +267,7 @@ def test_bodies(count, program, room, nodes):
 # Requests by chance.
 
 WORDS = ["books", "p0", "b1", "b2", "%2e%2e", "..", "a%00b", "x" * 70, "call", "nodes", "image", "log", "peek", "show", "status",
-         "stripes", "leases", "fragments", "domains-fault", "domains-upgrade", "1", "4096", "workers", "may-stop", "may-lose", "recipe", "health", "metrics", "version", "members",
+         "stripes", "leases", "fragments", "domains-fault", "domains-upgrade", "capacity", "1", "4096", "workers", "may-stop", "may-lose", "recipe", "health", "metrics", "version", "members",
          "leader", "0", "snapshot", "matrix", "events", "\xe9", "", "%", "*"]
 QUERIES = ["now=1", "now=2", "format=csv", "from=0", "follow=0", "session=9", "command=tick", "node=1", "fault=0", "code=wide",
            "stripe=1", "fragment=3", "missing=2", "%zz", "a=b&a=c", "key=k", "since=1"]

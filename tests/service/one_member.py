@@ -48,7 +48,7 @@ def run_example(count, asker, member, name):
         right = store.call(1, command)
         is_right = (status, told.get("n"), told.get("reply")) == (200, number, right)
         count.check(f"{name} {number}: {told}, and not {right}", is_right)
-    for view in shown.SERVED:
+    for view in shown.VIEWS:
         path = f"/books/{book}/show/{view.replace(' ', '-')}"
         text, right = asker.ask(member.client, "GET", f"{path}?format=csv")[2].decode(), shown.shown(view, store, len(scripts[0]))
         count.check(f"{name}: show {view}: {text}", text == right)

@@ -1,6 +1,7 @@
 package main
 
 import (
+	"bytes"
 	"context"
 	"fmt"
 	"net/http/httptest"
@@ -13,6 +14,7 @@ import (
 	"time"
 
 	"lrcman/service/book"
+	"lrcman/service/internal/ctl"
 	"lrcman/service/internal/httpapi"
 	"lrcman/service/internal/logging"
 	"lrcman/service/internal/metrics"
@@ -188,4 +190,30 @@ func sorted(set map[string]bool) (words []string) {
 	}
 	sort.Strings(words)
 	return words
+}
+
+// The page and the help of ctl name each table.
+func TestEachTableIsNamed(t *testing.T) {
+	page, err := os.ReadFile("../../../docs/SERVICE.md")
+	if err != nil {
+		t.Fatal(err)
+	}
+	_, row, _ := strings.Cut(string(page), "\n| `GET /books/NAME/show/TABLE` |")
+	row, _, _ = strings.Cut(row, "\n")
+	var help bytes.Buffer
+	ctl.Main([]string{"--help"}, &help, &help)
+	_, what, _ := strings.Cut(help.String(), "WHAT: ")
+	what, _, _ = strings.Cut(what, " or workers")
+	words := map[string]bool{}
+	for _, word := range strings.Split(what, ",") {
+		words[strings.Join(strings.Fields(word), "-")] = true
+	}
+	for _, view := range book.Views {
+		if !strings.Contains(row, "`"+view+"`") || !words[view] {
+			t.Errorf("%s is not named in %s, or in %s", view, row, what)
+		}
+	}
+	if len(words) != len(book.Views) {
+		t.Errorf("other tables are named: %s", what)
+	}
 }

@@ -59,7 +59,7 @@ const help = `usage: lrcmand ctl [OPTIONS] COMMAND
   health BOOK                   each reason why not all is well. Status 4: a stripe is lost, unavailable
                                 or at margin 0
   table BOOK WHAT               WHAT: status, stripes, nodes, leases, work, fragments, domains fault,
-                                domains upgrade, health or workers
+                                domains upgrade, health, capacity or workers
   call BOOK COMMAND..           makes one command, as call p0 lease 17 3, and prints the reply
   ok-to-stop BOOK NODE..        status 0: these may be stopped at once; 4: a stripe would be harmed.
                                 fault N.. and upgrade N.. name whole domains

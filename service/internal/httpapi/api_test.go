@@ -246,7 +246,7 @@ func TestBadRequestsAreRefusedByName(t *testing.T) {
 		{"GET", "/books/p0?now=2", "", 400, `the parameter "now" has to be 0 or 1`},
 		{"GET", "/books/p0?now=1&now=1", "", 400, `the parameter "now" comes twice`},
 		{"GET", "/books/p0?%zz", "", 400, "the parameters can't be read"},
-		{"GET", "/books/p0/show/all", "", 404, "it has to be status, stripes, nodes, leases, work, fragments, domains-fault, domains-upgrade, health"},
+		{"GET", "/books/p0/show/all", "", 404, "it has to be status, stripes, nodes, leases, work, fragments, domains-fault, domains-upgrade, health, capacity"},
 		{"GET", "/books/p0/show/domains", "", 404, "there is no such table"},
 		{"GET", "/books/p0/show/domains%20fault", "", 404, "there is no such table"},
 		{"GET", "/books/p0/show/Health", "", 404, "there is no such table"},
@@ -433,6 +433,9 @@ func TestTablesAreThoseOfShow(t *testing.T) {
 		"stripes/1": "stripe,code,level,margin,missing,missing_fragments,homeless,homeless_fragments," + homes +
 			"\n1,narrow,risk,2,0x000a,1 3,0x0002,1,0:0,-,2:0,3:0,4:0,5:0,6:0,7:0,8:0,9:0,,,,,,",
 		"show/health": "reason,count,first\nmargin_2,1,1\nwaiting,1,1 2",
+		// (60 slots are free on the 17 nodes: three wide stripes and twelve fragments, or six narrow ones)
+		"show/capacity": "code,stripes,fragment,not_active,offline,full,fault_domain,upgrade_domain,free_slots" +
+			"\nwide,3,12,2,1,17,0,0,12\nnarrow,6,0,2,1,17,0,0,0",
 		"show/leases": "stripe,fragment,holder,target,epoch,expiry\n1,1,1,11:0,1,3",
 		"show/work":   "stripe,fragment,kind,sources,reads,standing,holder,epoch\n1,1,local,0 2 6,3,leased,1,1\n1,2,move,,1,open,,",
 		"may-stop?node=0&node=6": "stripe,code,level_before,margin_before,level_after,margin_after,missing_after,missing_fragments_after,leases_ended,harmed" +
@@ -455,6 +458,10 @@ func TestTablesAreThoseOfShow(t *testing.T) {
 	}
 	_, text = s.ask("GET", "/books/p0/peek?command=lease+1+2&session=2", "")
 	if !strings.Contains(text, `"n":5,`) || !strings.Contains(text, `"reply":"granted 1 2 12:0 epoch 1 move"`) {
+		t.Error(text)
+	}
+	_, text = s.ask("GET", "/books/p0/show/capacity", "")
+	if !strings.Contains(text, `"rows":[{"code":"wide","stripes":3,"fragment":12,"not_active":2,"offline":1,"full":17,"fault_domain":0,"upgrade_domain":0,"free_slots":12},`) {
 		t.Error(text)
 	}
 	s.expect("GET", "/books/p0/nodes", "", 200, strings.TrimSuffix(nodes(4), "\n"))

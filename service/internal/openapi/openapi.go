@@ -105,7 +105,12 @@ func (o *operation) build(route Route) (schema, error) {
 	parameters := []schema{}
 	for _, word := range strings.Split(route.Pattern, "/") {
 		if strings.HasPrefix(word, "{") {
-			parameters = append(parameters, schema{"name": strings.Trim(word, "{}"), "in": "path", "required": true, "schema": text()})
+			name := strings.Trim(word, "{}")
+			of, isKnown := parametersOf[name]
+			if !isKnown {
+				of = text()
+			}
+			parameters = append(parameters, schema{"name": name, "in": "path", "required": true, "schema": of})
 		}
 	}
 	for _, name := range strings.Fields(route.Query) {

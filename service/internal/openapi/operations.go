@@ -3,6 +3,8 @@ package openapi
 import (
 	"sort"
 	"strings"
+
+	"lrcman/service/book"
 )
 
 // A schema is an object of JSON Schema.
@@ -89,7 +91,8 @@ func and(codes []string, more ...string) []string {
 var parametersOf = map[string]schema{"now": flagged(), "force": flagged(), "follow": flagged(), "key": text(), "since": integer(), "at": integer(),
 	"opens": integer(), "from": text(), "limit": integer(), "code": {"type": "string", "enum": []string{"wide", "narrow"}}, "command": text(),
 	"session": integer(), "format": {"type": "string", "enum": []string{"json", "csv"}}, "stripe": integer(), "fragment": integer(),
-	"missing": list(integer()), "node": list(integer()), "fault": list(integer()), "upgrade": list(integer()), "book": text(), "books": text()}
+	"missing": list(integer()), "node": list(integer()), "fault": list(integer()), "upgrade": list(integer()), "book": text(), "books": text(),
+	"view": {"type": "string", "enum": book.Views}}
 
 func flagged() schema { return schema{"type": "string", "enum": []string{"0", "1"}} }
 

@@ -3,6 +3,7 @@ package state
 import (
 	"fmt"
 	"testing"
+	"time"
 
 	"lrcman/service/book"
 )
@@ -113,6 +114,30 @@ func TestCallsGoOnBesideALongLook(t *testing.T) {
 		t.Error(err)
 	}
 	p.tableOf("stripes")
+}
+
+// Those that may take very long have a copy of their own: no look waits for another one.
+func TestSlowTablesAndLongLooksDoNotWaitForEachOther(t *testing.T) {
+	p := newPlayer(t)
+	p.call("place 1")
+	for _, view := range []string{"domains-fault", "health", "capacity"} {
+		err := p.s.LookLong("p0", func(*book.Book, Position) error {
+			done := make(chan error, 1)
+			go func() {
+				_, _, err := p.s.Table("p0", view)
+				done <- err
+			}()
+			select {
+			case err := <-done:
+				return err
+			case <-time.After(time.Minute):
+				return fmt.Errorf("%s waits", view)
+			}
+		})
+		if err != nil {
+			t.Error(err)
+		}
+	}
 }
 
 func TestFewBooksHaveACopy(t *testing.T) {
