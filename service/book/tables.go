@@ -16,6 +16,9 @@ import (
 // A Table is what `lrcman show`, `may-stop` or `may-lose` prints: lines of CSV without quotes, of which the first names the columns.
 type Table struct{ text []byte }
 
+// TableOf is the table that such a text has.
+func TableOf(csv []byte) *Table { return &Table{csv} }
+
 // CSV is the table as the program prints it.
 func (t *Table) CSV() []byte { return t.text }
 

@@ -11,7 +11,8 @@ round what it leases is reported. Right is:
   has more leases than is allowed, of fragments that come or go, or than it had.
 - When the script is empty, no lawful move helps: each fragment is tried on each node by the model. So the share of each node is
   near the mean where the rules allow it. The moves are at most an eighth more than the least possible, whatever the rules.
-- With --dry it tells the spread that the model counts now, and after the last round.
+- With --dry it tells the spread that the model counts now, and after the last round; with --moves the leases that the model grants to
+  the script, with the shares that it counts.
 - Tables of `show fragments`, as the model makes them, give the same script; and so does a book over HTTP, of members that a test
   plays: some are away, busy or wrong, and a book changes while it is read.
 With --write the pictures of the page are drawn anew. Bad input is refused by file, line and column. The last line is
@@ -223,6 +224,19 @@ def one_round(run, script, at_once):
     return len(leases)
 
 
+def moves_of(store, script):
+    """The moves of a script, with the shares of both nodes before and after each, in percent."""
+    watch, rows = copy.deepcopy(store), ["stripe,fragment,from,from_before,from_after,to,to_before,to_after"]
+    for line in script:
+        before, reply = settled(watch), watch.call(1, line).split(" ")
+        if reply[0] == "granted":
+            key, after = (int(reply[1]), int(reply[2])), settled(watch)
+            sides = watch.homes[key][0], watch.leases[key].target[0]
+            told = [f"{node},{','.join(f'{100 * loads[node] / watch.nodes[node].slots:.1f}' for loads in (before, after))}" for node in sides]
+            rows.append(f"{key[0]},{key[1]},{','.join(told)}")
+    return rows
+
+
 def even_out(run, within, at_once):
     """Makes rounds until none is left. Returns the least number of moves, and those made."""
     words = ("--within", str(within), "--at-once", str(at_once))
@@ -235,6 +249,8 @@ def even_out(run, within, at_once):
         if rounds == 0:
             run.write("fragments.csv", fragments_table(run.store))
             run.count.check(f"{run.name}: another script of fragments", run.tool(*words, homes=("fragments.csv",)) == script)
+            told, right = run.tool("--moves", *words), moves_of(run.store, script)
+            run.count.check(f"{run.name}: the moves {told}, and not {right}", told == right and len(told) > 1)
         moves, rounds = moves + one_round(run, script, at_once), rounds + 1
         if not run.count.check(f"{run.name}: it does not end", rounds <= MOST_ROUNDS):
             break
@@ -362,7 +378,8 @@ def refuse(count):
             ran = subprocess.run([TOOL, *names], cwd=folder, capture_output=True, text=True)
             count.check(f"{why}: {ran.stderr}", (ran.returncode, ran.stdout, ran.stderr) == (2, "", f"tools/balance: {why}\n"))
     given = "a b c".split()
-    for words in ([], ["a"], [*given, "d"], ["--within", "x", *given], ["--within", "-1", *given], ["--at-once", "0", *given]):
+    for words in ([], ["a"], [*given, "d"], ["--within", "x", *given], ["--within", "-1", *given], ["--at-once", "0", *given],
+                  ["--dry", "--moves", *given]):
         ran = subprocess.run([TOOL, *words], capture_output=True, text=True)
         count.check(f"the words {words}: {ran.stderr}", ran.returncode == 2 and ran.stdout == "" and ran.stderr.count("\n") == 1)
 

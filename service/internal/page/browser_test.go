@@ -91,6 +91,8 @@ func checkDOM(t *testing.T, name, dom string, b *recorded.Book) {
 	}
 	checkReasons(t, name, dom, b)
 	checkShares(t, name, dom, b)
+	checkRoom(t, name, dom, b)
+	checkBalance(t, name, dom, b)
 	if isUpgrading := strings.Contains(dom, "Upgrade domain "+b.Status["upgrading"]+" is upgrading"); isUpgrading != (b.Status["upgrading"] != "none") {
 		t.Errorf("%s: the page tells of the upgrade of %s: %v", name, b.Status["upgrading"], isUpgrading)
 	}
@@ -188,6 +190,84 @@ func checkShares(t *testing.T, name, dom string, b *recorded.Book) {
 	}
 }
 
+// textIn is the text of an element of the page that has no other in it.
+func textIn(dom, id string) string {
+	_, text, _ := strings.Cut(dom, `id="`+id+`"`)
+	_, text, _ = strings.Cut(text, ">")
+	text, _, _ = strings.Cut(text, "<")
+	return text
+}
+
+// more is how many more stripes of a code would be placed, with the word for them.
+func more(count, word string) string {
+	if count != "1" {
+		word += "s"
+	}
+	return count + " " + word
+}
+
+// checkRoom compares the table of capacity, and what is said of it, with that of the model.
+func checkRoom(t *testing.T, name, dom string, b *recorded.Book) {
+	var want [][]string
+	for _, line := range strings.Split(strings.TrimSpace(b.Room), "\n")[1:] {
+		want = append(want, strings.Split(line, ","))
+	}
+	if shown := rowsIn(dom, "room"); !reflect.DeepEqual(shown, want) {
+		t.Errorf("%s: the page shows the capacity %v, and the model has %v", name, shown, want)
+	}
+	said := more(want[0][1], "more wide stripe") + " would be placed, or " + more(want[1][1], "narrow one") + "."
+	if told := textIn(dom, "room-told"); told != said {
+		t.Errorf("%s: the page says %q, and not %q", name, told, said)
+	}
+}
+
+// checkBalance looks whether each node that takes fragments is there once, the fullest by share first, with its way from the mean share.
+func checkBalance(t *testing.T, name, dom string, b *recorded.Book) {
+	able, load, slots := map[string]recorded.Node{}, 0, 0
+	for _, node := range b.Nodes {
+		if node.Mode == "active" && node.Online {
+			able[fmt.Sprint(node.Node)] = node
+			load, slots = load+int(node.Load), slots+int(node.Slots)
+		}
+	}
+	rows, before, above, below := rowsIn(dom, "balance"), 2.0, 0, 0
+	for _, row := range rows {
+		node := able[row[0]]
+		delete(able, row[0])
+		share, mean := float64(node.Load)/float64(node.Slots), float64(load)/float64(slots)
+		want := []string{row[0], fmt.Sprint(node.Fault), fmt.Sprint(node.Upgrade), fmt.Sprint(node.Load), fmt.Sprint(node.Slots),
+			fmt.Sprintf("%.1f %%", share*100), fmt.Sprintf("%.1f", (share-mean)*100)}
+		if !reflect.DeepEqual(row, want) || share > before {
+			t.Errorf("%s: the page shows %v, and not %v, behind %f", name, row, want, before)
+		}
+		if share > mean {
+			above++
+		} else if share < mean {
+			below++
+		}
+		before = share
+	}
+	if len(able) > 0 || len(rows) == 0 {
+		t.Errorf("%s: the page lacks nodes of %d rows: %v", name, len(rows), able)
+	}
+	told := textIn(dom, "balance-told")
+	words := []string{fmt.Sprintf("fragments %.1f %% of the", 100*float64(load)/float64(slots)), "up to " + rows[0][5] + "; ",
+		fmt.Sprintf(" %d node", above), fmt.Sprintf("; %d below, down to %s.", below, rows[len(rows)-1][5])}
+	for _, it := range words {
+		if !strings.Contains(told, it) {
+			t.Errorf("%s: the page says %q, without %q", name, told, it)
+		}
+	}
+}
+
+// The command line of the plan is that of this service and this book; where there is a token it takes a file.
+func TestThePageNamesTheCommandOfThePlan(t *testing.T) {
+	server := serveOnce(t, pageOf(load(t, "quiet", "rack")), "")
+	if told := textIn(server.look(t, "/?book=rack", 2), "balance-command"); told != "tools/balance --server "+server.URL+" --moves rack" {
+		t.Error(told)
+	}
+}
+
 // checkPicture looks whether each node stands inside the picture, and over no other one.
 func checkPicture(t *testing.T, name, dom string, nodes int) {
 	size := regexp.MustCompile(`<svg width="(\d+)" height="(\d+)" [^>]*role="img"`).FindStringSubmatch(dom)
@@ -281,6 +361,11 @@ func TestThePageAsksForAToken(t *testing.T) {
 	dom := tab.DOM()
 	if !strings.Contains(dom, `<section id="ask" class="wide" aria-labelledby="ask-head">`) || strings.Contains(dom, `id="node-`) {
 		t.Error("the page does not ask for a token, or shows a store without one")
+	}
+	tab.Text(`(document.getElementById("token").value = "abcdefghijklmnop", document.getElementById("token-form").requestSubmit())`)
+	tab.Until("named the command of the plan", func() bool { return textIn(tab.DOM(), "balance-command") != "" })
+	if told := textIn(tab.DOM(), "balance-command"); told != "tools/balance --server "+server.URL+" --token-file FILE --moves rack" {
+		t.Error(told)
 	}
 }
 

@@ -122,13 +122,14 @@ type Event struct {
 // A BookEvent is what an event tells of a book.
 type BookEvent struct {
 	*survey.Report
-	Health     *survey.Health `json:"health"`
-	Risks      []survey.Risk  `json:"risks"`
-	RisksMore  int            `json:"risks_more"`
-	Leases     []survey.Lease `json:"leases"`
-	LeasesMore int            `json:"leases_more"`
-	Rates      survey.Rates   `json:"rates"`
-	Last       []survey.Line  `json:"last"`
+	Health     *survey.Health   `json:"health"`
+	Capacity   *survey.Capacity `json:"capacity"`
+	Risks      []survey.Risk    `json:"risks"`
+	RisksMore  int              `json:"risks_more"`
+	Leases     []survey.Lease   `json:"leases"`
+	LeasesMore int              `json:"leases_more"`
+	Rates      survey.Rates     `json:"rates"`
+	Last       []survey.Line    `json:"last"`
 }
 
 func (p *Page) event(name string, scope httpapi.Scope) ([]byte, error) {
@@ -140,17 +141,19 @@ func (p *Page) event(name string, scope httpapi.Scope) ([]byte, error) {
 		if err != nil {
 			return nil, err
 		}
-		health, err := p.Watcher.Health(name)
-		if err != nil {
+		event.BookEvent = p.bookEvent(report)
+		if event.Health, err = p.Watcher.Health(name); err != nil {
 			return nil, err
 		}
-		event.BookEvent = p.bookEvent(report, health)
+		if event.Capacity, err = p.Watcher.Capacity(name); err != nil {
+			return nil, err
+		}
 	}
 	return json.Marshal(event)
 }
 
-func (p *Page) bookEvent(r *survey.Report, health *survey.Health) *BookEvent {
-	event := &BookEvent{Report: r, Health: health, Risks: r.Risks, Leases: oldest(r.Leases), Rates: p.Watcher.Rates(r.Book, r.Work), Last: p.Watcher.Last(r.Book)}
+func (p *Page) bookEvent(r *survey.Report) *BookEvent {
+	event := &BookEvent{Report: r, Risks: r.Risks, Leases: oldest(r.Leases), Rates: p.Watcher.Rates(r.Book, r.Work), Last: p.Watcher.Last(r.Book)}
 	if more := len(r.Risks) - mostRows; more > 0 {
 		event.Risks, event.RisksMore = r.Risks[:mostRows], more
 	}

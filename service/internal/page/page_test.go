@@ -299,7 +299,7 @@ func TestWithoutABookAnEventTellsOfTheGroup(t *testing.T) {
 
 func TestLongListsAreCut(t *testing.T) {
 	report := &survey.Report{Book: "p0", Risks: make([]survey.Risk, 777), Leases: make([]survey.Lease, 201)}
-	shown := pageOf(load(t)).bookEvent(report, nil)
+	shown := pageOf(load(t)).bookEvent(report)
 	if len(shown.Risks) != 200 || shown.RisksMore != 577 || len(shown.Leases) != 200 || shown.LeasesMore != 1 {
 		t.Errorf("%d and %d, %d and %d", len(shown.Risks), shown.RisksMore, len(shown.Leases), shown.LeasesMore)
 	}

@@ -8,21 +8,35 @@ import (
 	"lrcman/service/internal/state"
 )
 
-// A Health is how a book fares: the table of health of the library, as it was after so many entries. Its word is the first reason.
-type Health struct {
-	Word    string        `json:"word"`
-	N       uint64        `json:"n"`
-	Reasons []book.Reason `json:"reasons"`
+// A Making says after how many entries of a book a table of it was made, which may take long.
+type Making struct {
+	N uint64 `json:"n"`
 
 	opens uint64
 	made  time.Time
 	cost  time.Duration
 }
 
-// rest is how many times as long as a table of health took none is made behind it: that of a great book takes seconds.
-const rest = 3
+// A Health is how a book fares: the table of health of the library. Its word is the first reason.
+type Health struct {
+	Word string `json:"word"`
+	*Making
+	Reasons []book.Reason `json:"reasons"`
+}
 
-// WatchHealth makes the health of each book that has changed, one book at a time, until the context ends.
+// A Capacity is how much more fits into a book: the table of capacity of the library.
+type Capacity struct {
+	*Making
+	Rows *book.Table `json:"rows"`
+}
+
+const (
+	rest   = 3           // so many times as long as a table took none is made behind it: that of a great book takes seconds
+	looked = time.Minute // the capacity of a book is made anew for so long after somebody asked for it
+)
+
+// WatchHealth makes the health of each book that has changed, and its capacity where somebody looks at that, one book at a time, until
+// the context ends.
 func (w *Watcher) WatchHealth(ctx context.Context) {
 	for {
 		for _, name := range w.Names() {
@@ -45,59 +59,136 @@ func (w *Watcher) pause(ctx context.Context, d time.Duration) bool {
 	}
 }
 
-// renew makes the health of a book if that has changed, and returns how long it took. (A book that is gone has none)
+// renew makes these tables of a book if it has changed, and returns how long that took. (A book that is gone has none)
 func (w *Watcher) renew(name string) time.Duration {
-	w.health.Lock()
-	defer w.health.Unlock()
+	w.slow.Lock()
+	defer w.slow.Unlock()
 	begin := w.now()
-	if _, err := w.makeHealth(name, begin); err != nil {
+	if _, err := w.makeHealth(name); err != nil {
 		return 0
+	}
+	if w.track(name).isLookedAt(begin) {
+		if _, err := w.makeCapacity(name); err != nil {
+			return 0
+		}
 	}
 	return w.now().Sub(begin)
 }
 
-// makeHealth looks at a book for no longer than its image takes. The table is made of that, beside calls.
-func (w *Watcher) makeHealth(name string, begin time.Time) (*Health, error) {
-	t, at, later := w.track(name), state.Position{}, func() ([]book.Reason, error) { return nil, nil }
-	known := t.known()
+// anew makes a table of a book unless what is known is of now, or took too long. It looks at the book for no longer than its image
+// takes; `take` returns what makes the table of that, beside calls. It returns nil if nothing was made.
+func (w *Watcher) anew(name string, known *Making, take func(View) (func() error, error)) (*Making, error) {
+	begin, at := w.now(), state.Position{}
+	var finish func() error
 	err := w.books.Look(name, func(v View) (err error) {
 		if at = v.Position(); known == nil || !known.isAt(at) && begin.Sub(known.made) >= share*known.cost {
-			later, err = v.Health()
+			finish, err = take(v)
 		}
 		return err
 	})
-	if err != nil {
+	if err != nil || finish == nil {
 		return nil, err
 	}
-	reasons, err := later()
-	if err != nil || reasons == nil {
-		return known, err
+	if err := finish(); err != nil {
+		return nil, err
 	}
 	now := w.now()
-	health := &Health{Word: reasons[0].Reason, N: at.Made, Reasons: reasons, opens: at.Opens, made: now, cost: now.Sub(begin)}
+	return &Making{N: at.Made, opens: at.Opens, made: now, cost: now.Sub(begin)}, nil
+}
+
+func (m *Making) isAt(at state.Position) bool { return m.N == at.Made && m.opens == at.Opens }
+
+func (w *Watcher) makeHealth(name string) (*Health, error) {
+	t, reasons := w.track(name), []book.Reason{}
+	health := t.slowly().health
+	made, err := w.anew(name, health.making(), func(v View) (func() error, error) {
+		rows, err := v.Health()
+		return func() (err error) { reasons, err = rows(); return err }, err
+	})
+	if made == nil {
+		return health, err
+	}
+	health = &Health{reasons[0].Reason, made, reasons}
 	t.mu.Lock()
 	defer t.mu.Unlock()
-	t.health = health
+	t.slow.health = health
 	return health, nil
 }
 
-func (h *Health) isAt(at state.Position) bool { return h.N == at.Made && h.opens == at.Opens }
-
-func (t *track) known() *Health {
+func (w *Watcher) makeCapacity(name string) (*Capacity, error) {
+	t := w.track(name)
+	capacity, rows := t.slowly().capacity, (*book.Table)(nil)
+	made, err := w.anew(name, capacity.making(), func(v View) (func() error, error) {
+		table, err := v.Show("capacity")
+		return func() (err error) { rows, err = table(); return err }, err
+	})
+	if made == nil {
+		return capacity, err
+	}
+	capacity = &Capacity{made, rows}
 	t.mu.Lock()
 	defer t.mu.Unlock()
-	return t.health
+	t.slow.capacity = capacity
+	return capacity, nil
+}
+
+func (h *Health) making() *Making {
+	if h == nil {
+		return nil
+	}
+	return h.Making
+}
+
+func (c *Capacity) making() *Making {
+	if c == nil {
+		return nil
+	}
+	return c.Making
+}
+
+// slow are the tables of a book that may take long, nil before they were first made, and when somebody asked for the capacity.
+type slow struct {
+	health   *Health
+	capacity *Capacity
+	asked    time.Time
+}
+
+func (t *track) slowly() slow {
+	t.mu.Lock()
+	defer t.mu.Unlock()
+	return t.slow
+}
+
+func (t *track) isLookedAt(now time.Time) bool {
+	asked := t.slowly().asked
+	return !asked.IsZero() && now.Sub(asked) < looked
 }
 
 // Known is the health of a book that was made last; nil before the first.
-func (w *Watcher) Known(name string) *Health { return w.track(name).known() }
+func (w *Watcher) Known(name string) *Health { return w.track(name).slowly().health }
 
 // Health is the same, but that it is made now if there is none yet.
 func (w *Watcher) Health(name string) (*Health, error) {
 	if known := w.Known(name); known != nil {
 		return known, nil
 	}
-	w.health.Lock()
-	defer w.health.Unlock()
-	return w.makeHealth(name, w.now())
+	w.slow.Lock()
+	defer w.slow.Unlock()
+	return w.makeHealth(name)
+}
+
+// Capacity is the capacity of a book that was made last, or is made now if there is none yet. For a while it is made anew when the
+// book changes.
+func (w *Watcher) Capacity(name string) (*Capacity, error) {
+	t := w.track(name)
+	t.mu.Lock()
+	known := t.slow.capacity
+	t.slow.asked = w.now()
+	t.mu.Unlock()
+	if known != nil {
+		return known, nil
+	}
+	w.slow.Lock()
+	defer w.slow.Unlock()
+	return w.makeCapacity(name)
 }

@@ -31,6 +31,10 @@ func TestASurveyOfTheLibraryIsThatOfTheModel(t *testing.T) {
 				return a.Stripe < b.Stripe || a.Stripe == b.Stripe && a.Fragment < b.Fragment
 			})
 		}
+		capacity, err := survey.NewWatcher(survey.OfState(s), c.time).Capacity(name)
+		if err != nil || string(capacity.Rows.CSV()) != b.Room || capacity.N != uint64(len(b.Lines)) {
+			t.Errorf("%s: the library has the capacity %+v, and the model %s; %v", name, capacity, b.Room, err)
+		}
 		health, err := survey.NewWatcher(survey.OfState(s), c.time).Health(name)
 		if err != nil || !reflect.DeepEqual(health.Reasons, b.Reasons) || health.N != uint64(len(b.Lines)) {
 			t.Errorf("%s: the library has the health %+v, and the model %+v; %v", name, health, b.Reasons, err)

@@ -26,6 +26,8 @@ type View interface {
 	Clock() uint32
 	// Health takes what the table of health is made of; the rows are made later, beside calls.
 	Health() (func() ([]book.Reason, error), error)
+	// Show does so for any table.
+	Show(table string) (book.TableSnapshot, error)
 }
 
 // Books are the books of one member, by name.

@@ -7,6 +7,7 @@ import (
 	"testing"
 	"time"
 
+	"lrcman/service/book"
 	"lrcman/service/internal/survey"
 	"lrcman/service/internal/survey/recorded"
 )
@@ -112,6 +113,79 @@ func TestHealthIsMadeAnewWhereABookHasChanged(t *testing.T) {
 	<-ended
 	if now := w.Known("quiet"); now != before {
 		t.Errorf("that of a book that is as it was is made anew: %p and not %p", now, before)
+	}
+}
+
+func TestCapacityIsThatOfTheModel(t *testing.T) {
+	for _, name := range states {
+		b := load(t, name)
+		found, err := newClock().watch(recorded.Books{name: b}).Capacity(name)
+		if err != nil || string(found.Rows.CSV()) != b.Room || found.N != uint64(len(b.Lines)) {
+			t.Errorf("%s: %+v, and the model has %s; %v", name, found, b.Room, err)
+		}
+	}
+	if found, err := newClock().watch(recorded.Books{}).Capacity("none"); err == nil {
+		t.Errorf("a book that is not there has the capacity %+v", found)
+	}
+}
+
+// counting are books that count how often a table of each was taken.
+type counting struct {
+	recorded.Books
+	taken map[string]int
+}
+
+func (c counting) Look(name string, look func(survey.View) error) error {
+	return c.Books.Look(name, func(v survey.View) error { return look(countingView{v, c.taken, name}) })
+}
+
+type countingView struct {
+	survey.View
+	taken map[string]int
+	name  string
+}
+
+func (v countingView) Show(table string) (book.TableSnapshot, error) {
+	v.taken[v.name]++
+	return v.View.Show(table)
+}
+
+// It takes long, so it is made anew only of a book that has changed, and only for a while after somebody asked for it.
+func TestCapacityIsMadeAnewWhereSomebodyLooksAtIt(t *testing.T) {
+	rack, quiet := load(t, "rack"), load(t, "quiet")
+	books, clock := counting{recorded.Books{"rack": rack, "quiet": quiet}, map[string]int{}}, newClock()
+	w := survey.NewWatcher(books, clock.time)
+	rack.Show(40)
+	first, err := w.Capacity("rack")
+	if err != nil || first.N != 40 || books.taken["rack"] != 1 {
+		t.Fatal(first, books.taken, err)
+	}
+	renew := func() {
+		w.Renew("rack")
+		w.Renew("quiet")
+	}
+	renew()
+	rack.Show(50)
+	if again, err := w.Capacity("rack"); err != nil || again != first || books.taken["rack"] != 1 {
+		t.Errorf("whoever asks waits for a new one: %+v, %v, %v", again, books.taken, err)
+	}
+	clock.pass(59 * time.Second)
+	renew()
+	if now, err := w.Capacity("rack"); err != nil || now.N != 50 || books.taken["rack"] != 2 {
+		t.Errorf("it is not made anew: %+v, %v, %v", now, books.taken, err)
+	}
+	rack.Show(60)
+	clock.pass(61 * time.Second)
+	renew()
+	if books.taken["rack"] != 2 || books.taken["quiet"] != 0 {
+		t.Errorf("it is made though nobody looks: %v", books.taken)
+	}
+	if known, err := w.Capacity("rack"); err != nil || known.N != 50 {
+		t.Errorf("%+v, %v", known, err)
+	}
+	renew()
+	if now, err := w.Capacity("rack"); err != nil || now.N != 60 || books.taken["rack"] != 3 {
+		t.Errorf("it is not made anew: %+v, %v, %v", now, books.taken, err)
 	}
 }
 

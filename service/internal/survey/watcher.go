@@ -30,7 +30,7 @@ type Watcher struct {
 	of    map[string]*track
 	isOld bool // the first step is over: a book that comes now is new
 
-	health sync.Mutex // held while the health of a book is made: of one at a time
+	slow sync.Mutex // held while a table is made that may take long: one at a time
 }
 
 // A Cause is a command with the kind of its reply.
@@ -85,7 +85,7 @@ type track struct {
 	report *Report
 	made   time.Time // when the report was
 	cost   time.Duration
-	health *Health
+	slow   slow
 }
 
 // NewWatcher makes a watcher of books, with a clock.

@@ -53,7 +53,7 @@ class Recording:
             "work": [{"stripe": int(r[0]), "fragment": int(r[1]), "kind": r[2], "standing": r[5]} for r in rows["work"]],
             "health": [{"reason": reason, "count": int(count), "first": [int(it) for it in first.split()]}
                        for reason, count, first in rows["health"]],
-            "counts": counts, "entries": self.entries,
+            "capacity": shown.shown("capacity", store, len(self.entries)), "counts": counts, "entries": self.entries,
         }
 
     @staticmethod

@@ -30,7 +30,8 @@ type Book struct {
 	Leases  []Lease           `json:"leases"`
 	Tasks   []Task            `json:"work"`
 	Reasons []book.Reason     `json:"health"`
-	Counts  map[string]uint64 `json:"counts"` // by command and reply
+	Room    string            `json:"capacity"` // as CSV
+	Counts  map[string]uint64 `json:"counts"`   // by command and reply
 	Lines   []Line            `json:"entries"`
 }
 
@@ -247,6 +248,13 @@ func (v view) Upgrading() (uint8, bool) {
 
 func (v view) Health() (func() ([]book.Reason, error), error) {
 	return func() ([]book.Reason, error) { return v.Reasons, nil }, nil
+}
+
+func (v view) Show(table string) (book.TableSnapshot, error) {
+	if table != "capacity" {
+		return nil, fmt.Errorf("the table %s is not recorded", table)
+	}
+	return func() (*book.Table, error) { return book.TableOf([]byte(v.Room)), nil }, nil
 }
 
 var (
