@@ -43,7 +43,8 @@ def test_wrong_rules(count, room):
     """Rules that were changed are found by the tests of the rules."""
     text, tests = (harness.read(f"{SERVICE}/{name}").decode() for name in ("alerts.yml", "alerts_test.yml"))
     for name, old, new in (("earlier", "for: 15m", "for: 14m"), ("fewer", "> 1000\n", "> 1001\n"),
-                           ("a level", 'level="lost"', 'level="risk"'),
+                           ("a level", 'level="lost"', 'level="risk"'), ("a reason", 'reason="fault_domains"', 'reason="margin_0"'),
+                           ("no slots", ">= 0\n", "> 0\n"),
                            ("a sum", "max by (job, book) (lrcmand_stripes", "sum by (job, book) (lrcmand_stripes"),
                            ("no hour", ">= max by (job, book) (sum", "<= max by (job, book) (sum")):
         count.check(f"the rules have no {old!r}", old in text)

@@ -111,7 +111,7 @@ func TestAlertsAreRules(t *testing.T) {
 		}
 	}
 	for _, wanted := range []string{"DiskReadOnly", "DiskLow", "CertificateExpires", "LeaderChanges", "RequestsRefused", "OutcomesUnknown",
-		"BooksDiffer", "SnapshotBroken", "ConnectionsFull", "StripeLost", "StripeUnavailable", "StripeAtMarginZero", "WorkDoesNotShrink", "NoLeader", "MemberBehind",
+		"BooksDiffer", "SnapshotBroken", "ConnectionsFull", "StripeLost", "StripeUnavailable", "StripeAtMarginZero", "DomainWouldLoseStripe", "SlotsLow", "WorkDoesNotShrink", "NoLeader", "MemberBehind",
 		"RequestsWithoutRight", "LeasesExpire"} {
 		if !names["Lrcmand"+wanted] {
 			t.Errorf("there is no alert %s", wanted)
