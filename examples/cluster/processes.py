@@ -66,10 +66,12 @@ class Node:
 
 
 class Store:
-    """All processes, by name. What each of them says is in FOLDER/NAME.log. Racks that come later are the last ones."""
+    """All processes, by name. What each of them says is in FOLDER/NAME.log. Racks that come later are the last ones. With a
+    reserve members refuse changes where fewer bytes are free than that, and not where fewer are than by default."""
 
-    def __init__(self, folder, lrcmand, program, members, racks=RACKS, later=0, slots=(SLOTS,)):
+    def __init__(self, folder, lrcmand, program, members, racks=RACKS, later=0, slots=(SLOTS,), reserve=None):
         self.folder, self.lrcmand, self.program = folder, lrcmand, program
+        self.options = [] if reserve is None else ["--disk-reserve", str(reserve)]
         count = NODES_OF_RACK * racks
         ports = free_ports(count + 2 * members + 1)
         self.nodes = [Node(number, racks, slots[number % len(slots)], ports.pop(), folder) for number in range(count)]
@@ -119,7 +121,7 @@ class Store:
     def start_members(self):
         """Starts lrcmand, and makes the book."""
         group = ",".join(f"{number}=127.0.0.1:{peer}/127.0.0.1:{client}" for number, (peer, client) in self.members.items())
-        words = ["--new", "--members", group] if len(self.members) > 1 else []
+        words = self.options + (["--new", "--members", group] if len(self.members) > 1 else [])
         for number, (_, client) in self.members.items():
             place = ["--data", f"{self.folder}/member-{number}", "--id", str(number), "--listen", f"127.0.0.1:{client}"]
             self.start(f"lrcmand-{number}", self.lrcmand, *place, "--tick", str(TICK), *words)

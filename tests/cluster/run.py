@@ -81,11 +81,11 @@ def build(count, library, room):
     return all(os.path.exists(f"{room}/{name}") for name in ("lrcmand", "cluster", "faulty"))
 
 
-def run_demo(room, program, folder, seed, *more, fault=None, is_quiet=False):
+def run_demo(room, program, folder, seed, *more, fault=None, is_quiet=False, lrcmand="lrcmand"):
     """Runs the demo; returns its status and its lines."""
     # (timeout asks it to end, so that its processes end too)
     words = ["timeout", "900", f"{EXAMPLE}/demo", "--folder", folder]
-    words += ["--lrcmand", f"{room}/lrcmand", "--program", f"{room}/{program}"]
+    words += ["--lrcmand", f"{room}/{lrcmand}", "--program", f"{room}/{program}"]
     env = {**os.environ, **({"CLUSTER_FAULT": fault} if fault else {})}
     status, said = said_by(*words, "--seed", str(seed), *more, env=env)
     if not is_quiet:
@@ -116,10 +116,22 @@ def test_counts(count, folder):
     count.check(f"a changed byte is found: {run.faults}", len(run.faults) == 1 and "the bytes of stripe" in run.faults[0])
 
 
+def note_words(room, name):
+    """Makes an lrcmand that first notes the words of its command line."""
+    with open(f"{room}/noted", "w", encoding="utf-8") as out:
+        out.write(f'#!/bin/sh\necho "$@" >> {room}/{name}.words\nexec {room}/lrcmand "$@"\n')
+    os.chmod(f"{room}/noted", 0o755)
+
+
 def test_faulty(count, room, seed):
     for fault, phases in (("fence", "late"), ("checksum", "damage"), ("none", "late,damage")):
-        how = {"fault": fault, "is_quiet": True}
-        status, said = run_demo(room, "faulty", f"{room}/{fault}", seed, "--objects", "4", "--phases", phases, **how)
+        how = {"fault": fault, "is_quiet": True, "lrcmand": "noted"}
+        note_words(room, fault)
+        more = ("--disk-reserve", "4096") if fault == "none" else ()
+        status, said = run_demo(room, "faulty", f"{room}/{fault}", seed, "--objects", "4", "--phases", phases, *more, **how)
+        words = bytes_of(f"{room}/{fault}.words").decode().split()
+        given = [it for option, it in zip(words, words[1:]) if option == "--disk-reserve"]
+        count.check(f"lrcmand begins with {words}", given == [*more[1:]] and "--data" in words)
         is_found = status == 1 and "differs at byte" in said.splitlines()[-1]
         wanted = status == 0 if fault == "none" else is_found
         count.check(f"the fault {fault}: {said[-2000:]}", wanted)
