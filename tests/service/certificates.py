@@ -3,7 +3,7 @@ import os
 import shutil
 import subprocess
 
-FOR = "subjectAltName=IP:127.0.0.1,DNS:localhost\nextendedKeyUsage=serverAuth,clientAuth\n"
+FOR = "subjectAltName={}\nextendedKeyUsage=serverAuth,clientAuth\n"
 
 
 class NoOpenssl(Exception):
@@ -26,11 +26,11 @@ class Authority:
         if ran.returncode:
             raise RuntimeError(f"openssl {' '.join(words)}: {ran.stderr[-500:]}")
 
-    def sign(self, name):
-        """A certificate of this name, and its key."""
+    def sign(self, name, hosts="IP:127.0.0.1,DNS:localhost"):
+        """A certificate of this name for these hosts, and its key."""
         base = f"{self.folder}/{name}"
         with open(f"{base}.ext", "w", encoding="utf-8") as text:
-            text.write(FOR)
+            text.write(FOR.format(hosts))
         self.openssl("req", *NEW, "-subj", f"/CN={name}", "-keyout", f"{base}.key", "-out", f"{base}.csr")
         self.openssl("x509", "-req", "-in", f"{base}.csr", "-CA", self.ca, "-CAkey", self.ca_key, "-CAcreateserial", "-days", "2",
                      "-extfile", f"{base}.ext", "-out", f"{base}.pem")

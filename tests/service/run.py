@@ -13,7 +13,8 @@ Usage: service/test [--long] [--library FOLDER], where FOLDER has what examples/
   recipes are right by that model.
 - What an operator sees: versions and options, a start, an end under load without an election, what systemd is sent.
 - The recipes of docs/OPERATING.md for a month run word for word: three days in a row, a rack that is lost and one that comes, rounds
-  of tools/balance, racks to be bought, and backups, of which one is restored. After each the book is that of the model.
+  of tools/balance, racks to be bought, and backups, of which one is restored. After each the book is that of the model. Over TLS
+  tools/balance has the script of the model, and refuses another CA, another host and a missing token.
 - A book moves from one member to another, call by call as the model has it.
 - Members at addresses where nobody listens don't strand a group, and changes that would are refused; a backup under load is restored
   with all that was acknowledged before it, with its keys and leases, and every book at one place of the log; a member continues alone
@@ -69,6 +70,7 @@ import time
 from tests import harness
 from tests.harness import TOP, Count
 from tests.model.rules import Node
+from tests.service.balance_tls import test_balance_over_tls
 from tests.service.bytes_and_looks import test_bytes, test_calls_beside_looks
 from tests.service.chaos import chaos
 from tests.service.client_py import test_clients, test_examples, test_looks, test_python_client, test_tls
@@ -231,6 +233,7 @@ def tests_of(count, library, program, faulty, is_long):
     yield lambda room: test_one_member(count, program, room)
     yield lambda room: test_monitoring(count, program, room, left_out)
     yield lambda room: test_month(count, program, room, left_out)
+    yield lambda room: test_balance_over_tls(count, program, room, left_out)
     yield lambda room: test_move(count, program, room)
     yield lambda room: test_members(count, program, room, NODES)
     yield lambda room: test_once_only(count, program, faulty, room, NODES)
