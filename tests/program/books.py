@@ -1,6 +1,7 @@
 """The tables of a book that tools/balance reads over HTTP, of members that a test plays."""
 import contextlib
 import http.server
+import os
 import subprocess
 import threading
 from urllib.parse import parse_qs, urlsplit
@@ -51,9 +52,10 @@ def url(server):
     return f"http://127.0.0.1:{server.server_port}"
 
 
-def asked(servers, *words):
+def asked(servers, *words, env=None):
     """What the tool says of a book of these members."""
-    ran = subprocess.run([TOOL, "--server", ",".join(servers), *words, BOOK], capture_output=True, text=True)
+    env = {**os.environ, **(env or {})}
+    ran = subprocess.run([TOOL, "--server", ",".join(servers), *words, BOOK], capture_output=True, text=True, env=env)
     return ran.returncode, ran.stdout, ran.stderr.replace(servers[-1], "SERVER")
 
 
@@ -75,9 +77,14 @@ def test_books(count, folder, tables, script):
     with member(tables, stripes=[(200, stripes, 6, 3), (200, stripes, 7, 2), (200, stripes, 7, 3)]) as one:
         told = asked([url(one)])
         count.check(f"a book that changes meanwhile: {told}, asked {len(one.asked)}", told == right and len(one.asked) == 9)
-    with member(tables, nodes=[(503, '{"code":"busy"}')]) as one, member(tables) as other:
-        told = asked([url(one), url(other)])
-        count.check(f"a member that is busy: {told}", told == right and len(one.asked) == 1)
+    for status, is_next in ((503, True), (429, True), (404, False), (401, False), (500, False)):
+        with member(tables, nodes=[(status, "why")]) as one, member(tables) as other:
+            told = asked([url(one), url(other)])
+            is_right = told == right if is_next else told[0] == 2 and not other.asked
+            count.check(f"a member that answers {status}, and another one: {told}", is_right and len(one.asked) == 1)
+    with member(tables) as one:
+        told = asked([url(one)], env={"http_proxy": "http://127.0.0.1:1", "no_proxy": ""})
+        count.check(f"a proxy that others are asked by: {told}", told == right)
     for name, answers, why in (
         ("no right", [(401, '{"code":"unauthorized"}')], 'book p 0: SERVER answers nodes: 401 {"code":"unauthorized"}'),
         ("no book", [(404, '{"code":"no_book"}')], 'book p 0: SERVER answers nodes: 404 {"code":"no_book"}'),

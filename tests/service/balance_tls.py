@@ -52,7 +52,7 @@ def compare(count, url, folder, ca, other_ca):
     count.check(f"there is something to move: {script} after {replies}", "lease" in script)
     tokens = "--token-file", f"{folder}/tokens"
     right = 0, f"# at {len(COMMANDS)} opens {opens}\n{script}", ""
-    for servers in (url, f"https://127.0.0.1:1,{url}"):
+    for servers in (url, f"http://127.0.0.1:1,{url}"):
         told = balance("--server", servers, "--ca", ca, *tokens, BOOK)
         count.check(f"over TLS, {servers}: {told}, and not {right}", told == right)
     moves = balance("--server", url, *tokens, "--ca", ca, "--moves", BOOK)

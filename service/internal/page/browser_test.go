@@ -221,6 +221,27 @@ func checkRoom(t *testing.T, name, dom string, b *recorded.Book) {
 	}
 }
 
+// What is older than the rest says so; and where the numbers of stripes run out nothing rules out nodes.
+func TestThePageSaysAsOfWhichEntryItsCapacityIs(t *testing.T) {
+	books := load(t, "rack")
+	head, _, _ := strings.Cut(books["rack"].Room, "\n")
+	books["rack"].Room = head + "\nwide,4036,,,,,,,65536\nnarrow,1,9,1,2,3,4,5,6\n"
+	p := pageOf(books)
+	books["rack"].Show(60)
+	if _, err := p.Watcher.Capacity("rack"); err != nil {
+		t.Fatal(err)
+	}
+	books["rack"].Show(61)
+	dom := serveOnce(t, p, "").look(t, "/", 2)
+	if told := textIn(dom, "room-told"); told != "4,036 more wide stripes would be placed, or 1 narrow one. As of entry 60." {
+		t.Error(told)
+	}
+	rows := fmt.Sprint(rowsIn(dom, "room"))
+	if rows != "[[wide 4036 – – – – – – 65536] [narrow 1 9 1 2 3 4 5 6]]" {
+		t.Error(rows)
+	}
+}
+
 // checkBalance looks whether each node that takes fragments is there once, the fullest by share first, with its way from the mean share.
 func checkBalance(t *testing.T, name, dom string, b *recorded.Book) {
 	able, load, slots := map[string]recorded.Node{}, 0, 0

@@ -2,6 +2,8 @@ package state
 
 import (
 	"fmt"
+	"sync"
+	"sync/atomic"
 	"testing"
 	"time"
 
@@ -137,6 +139,52 @@ func TestSlowTablesAndLongLooksDoNotWaitForEachOther(t *testing.T) {
 		if err != nil {
 			t.Error(err)
 		}
+	}
+}
+
+// One that is not what its book was refuses an entry, and can't be used any more: the next look begins with another one.
+func TestACopyThatCantFollowIsDropped(t *testing.T) {
+	p := newPlayer(t)
+	p.call("place 1")
+	p.tableOf("stripes")
+	if _, err := p.shadow().book.Call(1, book.Command{Kind: book.Place, Stripe: 7}); err != nil {
+		t.Fatal(err)
+	}
+	p.call("tick")
+	p.call("place 7")
+	if _, _, err := p.s.Table("p0", "stripes"); err == nil || p.shadow().book != nil {
+		t.Errorf("it is kept, or made no fault: %v", err)
+	}
+	p.tableOf("stripes")
+}
+
+// A copy is one book, which two looks may not use at once.
+func TestLongLooksAtABookAreTakenInTurn(t *testing.T) {
+	p := newPlayer(t)
+	var now, most int32
+	var all sync.WaitGroup
+	for i := 0; i < 8; i++ {
+		all.Add(1)
+		go func() {
+			defer all.Done()
+			for turn := 0; turn < 5; turn++ {
+				err := p.s.LookLong("p0", func(*book.Book, Position) error {
+					if count := atomic.AddInt32(&now, 1); count > 1 {
+						atomic.StoreInt32(&most, count)
+					}
+					time.Sleep(time.Millisecond)
+					atomic.AddInt32(&now, -1)
+					return nil
+				})
+				if err != nil {
+					t.Error(err)
+				}
+			}
+		}()
+	}
+	all.Wait()
+	if most > 0 {
+		t.Errorf("%d looks at once", most)
 	}
 }
 

@@ -8,6 +8,7 @@ import (
 	"time"
 
 	"lrcman/service/book"
+	"lrcman/service/internal/state"
 	"lrcman/service/internal/survey"
 	"lrcman/service/internal/survey/recorded"
 )
@@ -129,31 +130,71 @@ func TestCapacityIsThatOfTheModel(t *testing.T) {
 	}
 }
 
-// counting are books that count how often a table of each was taken.
+// counting are books that count how often a table of each was taken, and that may be opened again.
 type counting struct {
 	recorded.Books
+	*clock
 	taken map[string]int
+	cost  time.Duration // that a table takes
+	opens uint64
 }
 
-func (c counting) Look(name string, look func(survey.View) error) error {
-	return c.Books.Look(name, func(v survey.View) error { return look(countingView{v, c.taken, name}) })
+func (c *counting) Look(name string, look func(survey.View) error) error {
+	return c.Books.Look(name, func(v survey.View) error { return look(countingView{v, c, name}) })
 }
 
 type countingView struct {
 	survey.View
-	taken map[string]int
-	name  string
+	of   *counting
+	name string
+}
+
+func (v countingView) Position() state.Position {
+	at := v.View.Position()
+	at.Opens += v.of.opens
+	return at
 }
 
 func (v countingView) Show(table string) (book.TableSnapshot, error) {
-	v.taken[v.name]++
-	return v.View.Show(table)
+	v.of.taken[v.name]++
+	made, err := v.View.Show(table)
+	return func() (*book.Table, error) {
+		v.of.pass(v.of.cost)
+		return made()
+	}, err
+}
+
+// A table that takes long is made at most once in twenty times its duration, and anew where the book was opened again.
+func TestCapacityTakesASmallShareOfTheTime(t *testing.T) {
+	rack, clock := load(t, "rack"), newClock()
+	books := &counting{recorded.Books{"rack": rack}, clock, map[string]int{}, time.Second, 0}
+	w := survey.NewWatcher(books, clock.time)
+	rack.Show(40)
+	for i, it := range []struct {
+		passes time.Duration
+		change func()
+		taken  int
+	}{
+		{0, func() {}, 1}, {19 * time.Second, func() { rack.Show(50) }, 1}, {time.Second, func() {}, 2}, {time.Minute, func() {}, 2},
+		{time.Minute, func() { books.opens++ }, 3}, {time.Minute, func() {}, 3},
+	} {
+		it.change()
+		clock.pass(it.passes)
+		if _, err := w.Capacity("rack"); err != nil {
+			t.Fatal(err)
+		}
+		w.Renew("rack")
+		if books.taken["rack"] != it.taken {
+			t.Errorf("step %d: it was made %d times, and not %d", i, books.taken["rack"], it.taken)
+		}
+	}
 }
 
 // It takes long, so it is made anew only of a book that has changed, and only for a while after somebody asked for it.
 func TestCapacityIsMadeAnewWhereSomebodyLooksAtIt(t *testing.T) {
 	rack, quiet := load(t, "rack"), load(t, "quiet")
-	books, clock := counting{recorded.Books{"rack": rack, "quiet": quiet}, map[string]int{}}, newClock()
+	clock := newClock()
+	books := &counting{recorded.Books{"rack": rack, "quiet": quiet}, clock, map[string]int{}, 0, 0}
 	w := survey.NewWatcher(books, clock.time)
 	rack.Show(40)
 	first, err := w.Capacity("rack")
