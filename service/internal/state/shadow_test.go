@@ -58,7 +58,7 @@ func TestALongLookSeesTheBookAsItIs(t *testing.T) {
 		p.ticks(mostBehind)
 		p.tableOf("stripes")
 	}
-	if p.shadow().book != first || first.Made() != 8+8*mostBehind || first.Before() == 0 {
+	if p.shadow().book != first || first.Made() != 8+8*mostBehind || first.Before() != first.Made() {
 		t.Errorf("the copy did not follow: %d entries, of which it forgot %d", first.Made(), first.Before())
 	}
 	p.ticks(mostBehind + 1)
