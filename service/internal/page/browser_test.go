@@ -221,7 +221,7 @@ func checkRoom(t *testing.T, name, dom string, b *recorded.Book) {
 	}
 }
 
-// What is older than the rest says so; and where the numbers of stripes run out nothing rules out nodes.
+// What is older than the rest says so; where the numbers of stripes run out nothing rules out nodes; and there may be no node.
 func TestThePageSaysAsOfWhichEntryItsCapacityIs(t *testing.T) {
 	books := load(t, "rack")
 	head, _, _ := strings.Cut(books["rack"].Room, "\n")
@@ -232,7 +232,13 @@ func TestThePageSaysAsOfWhichEntryItsCapacityIs(t *testing.T) {
 		t.Fatal(err)
 	}
 	books["rack"].Show(61)
+	for i := range books["rack"].Nodes {
+		books["rack"].Nodes[i].Online = false
+	}
 	dom := serveOnce(t, p, "").look(t, "/", 2)
+	if told := textIn(dom, "balance-told"); told != "No node takes fragments." || len(rowsIn(dom, "balance")) > 0 {
+		t.Error(told)
+	}
 	if told := textIn(dom, "room-told"); told != "4,036 more wide stripes would be placed, or 1 narrow one. As of entry 60." {
 		t.Error(told)
 	}
