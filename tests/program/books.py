@@ -59,6 +59,18 @@ def asked(servers, *words, env=None):
     return ran.returncode, ran.stdout, ran.stderr.replace(servers[-1], "SERVER")
 
 
+def ask_others(count, tables, right):
+    """A member that is busy is passed over, and no other one; and no proxy is asked."""
+    for status, is_next in ((503, True), (429, True), (404, False), (401, False), (500, False)):
+        with member(tables, nodes=[(status, "why")]) as one, member(tables) as other:
+            told = asked([url(one), url(other)])
+            is_right = told == right if is_next else told[0] == 2 and not other.asked
+            count.check(f"a member that answers {status}, and another one: {told}", is_right and len(one.asked) == 1)
+    with member(tables) as one:
+        told = asked([url(one)], env={"http_proxy": "http://127.0.0.1:1", "no_proxy": ""})
+        count.check(f"a proxy that others are asked by: {told}", told == right)
+
+
 def test_books(count, folder, tables, script):
     """A book with these tables has this script; members that are away, busy or wrong are passed over or told."""
     right = (0, f"# at 7 opens 3\n{script}", "")
@@ -77,14 +89,7 @@ def test_books(count, folder, tables, script):
     with member(tables, stripes=[(200, stripes, 6, 3), (200, stripes, 7, 2), (200, stripes, 7, 3)]) as one:
         told = asked([url(one)])
         count.check(f"a book that changes meanwhile: {told}, asked {len(one.asked)}", told == right and len(one.asked) == 9)
-    for status, is_next in ((503, True), (429, True), (404, False), (401, False), (500, False)):
-        with member(tables, nodes=[(status, "why")]) as one, member(tables) as other:
-            told = asked([url(one), url(other)])
-            is_right = told == right if is_next else told[0] == 2 and not other.asked
-            count.check(f"a member that answers {status}, and another one: {told}", is_right and len(one.asked) == 1)
-    with member(tables) as one:
-        told = asked([url(one)], env={"http_proxy": "http://127.0.0.1:1", "no_proxy": ""})
-        count.check(f"a proxy that others are asked by: {told}", told == right)
+    ask_others(count, tables, right)
     for name, answers, why in (
         ("no right", [(401, '{"code":"unauthorized"}')], 'book p 0: SERVER answers nodes: 401 {"code":"unauthorized"}'),
         ("no book", [(404, '{"code":"no_book"}')], 'book p 0: SERVER answers nodes: 404 {"code":"no_book"}'),

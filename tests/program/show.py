@@ -5,6 +5,7 @@ The seed, by default that of the hour, is printed. It is that of some of the sto
 
 - Each bundle of `examples` and `examples/rules`, each sequel of `examples/sequels`, and 300 drawn bundles, or 3,000 with
   --long: each table, and with `health` status 4 where a stripe is in danger. With --quick each fifth bundle, and 20 drawn ones.
+- The table of capacity where the numbers of stripes run out, which is reckoned by hand.
 - The same input, and what would become of each stripe if drawn nodes, and nodes of drawn domains, were stopped, or lost: the
   table, and status 4 where a stripe is harmed. The model makes the reports and compares. Stripes that are harmed by no
   more than a home have to be among them.
@@ -21,14 +22,16 @@ import os
 import re
 import subprocess
 import sys
+import unittest.mock
 from collections import Counter
 from concurrent.futures import ThreadPoolExecutor
 
 from tests import harness
 from tests.harness import parts_of
 from tests.model import causes, draws, returns, rules
+from tests.model import shown as model
 from tests.model.draws import numbers
-from tests.model.shown import FORECAST, LEVELS, REPORTS, STRIPES, VIEWS, after_reports, capacity_rows, domains_of, domains_rows
+from tests.model.shown import FORECAST, HEADS, LEVELS, REPORTS, STRIPES, VIEWS, after_reports, capacity_rows, domains_of, domains_rows
 from tests.model.shown import forecast, health_rows, is_in_danger, level_counts, levels_of, nodes_of, shown
 
 DRAWN, LONG, QUICK, COMMANDS = 300, 3_000, 20, 60
@@ -217,6 +220,23 @@ def expect_sequel(count, program, name, sequel):
     expect_forecasts(count, name, program, sequel, store, len(sequel), 5)
 
 
+def expect_numbers(count, program, step):
+    """Where the numbers of stripes run out, nothing rules out nodes: of the program, and of the model with few numbers, by hand."""
+    head = ",".join(HEADS["capacity"]) + "\n"
+    nodes = {number: rules.Node(number, number % 256, 256) for number in range(160)}  # (40,960 slots: 2,560 wide or 4,096 narrow stripes)
+    for lines, rows in ((["place6 7"], "wide,2559,6,0,0,160,0,0,6\nnarrow,4095,,,,,,,0\n"),
+                        ([], "wide,2560,0,0,0,160,0,0,0\nnarrow,4096,,,,,,,0\n"),
+                        (["place 7"], "wide,2559,0,0,0,160,0,0,0\nnarrow,4094,4,0,0,160,0,0,4\n"))[::step]:
+        given = harness.bundle_of(nodes, [lines]).encode()
+        expect(count, f"160 nodes after {lines}", program, ["show", "capacity"], given, head + rows)
+    for numbers, rows in ((1, "wide,0,,,,,,,310\nnarrow,0,,,,,,,310\n"), (3, "wide,2,,,,,,,278\nnarrow,2,,,,,,,290\n")):
+        store = rules.Store({number: rules.Node(number, number, 16) for number in range(20)})
+        store.call(1, "place6 0")
+        with unittest.mock.patch.object(model, "STRIPES", numbers):
+            told = shown("capacity", store, 1)
+        count.check(f"the model with {numbers} numbers has {told}", told == head + rows)
+
+
 def expect_together(count, program):
     """Nodes that may each be stopped, or lost, and not all of them at once."""
     bundle, heads = harness.example("outages_one_by_one"), ",".join(FORECAST) + "\n"
@@ -299,6 +319,7 @@ def main(words):
     program = harness.program_of([word for word in words if word not in ("--long", "--quick") and not word.isdigit()])
     count = harness.Count()
     expect_examples(count, program, EACH if "--quick" in words else 1)
+    expect_numbers(count, program, EACH if "--quick" in words else 1)
     expect_together(count, program)
     expect_harm_alone(count, program)
     expect_refusals(count, program)
