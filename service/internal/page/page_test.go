@@ -3,6 +3,7 @@ package page
 import (
 	"bufio"
 	"encoding/json"
+	"fmt"
 	"io"
 	"net/http"
 	"net/http/httptest"
@@ -172,6 +173,16 @@ func TestAnEventHasTheNumbersOfTheModel(t *testing.T) {
 			if got := number(t, event, path...); got != b.Value(row) {
 				t.Errorf("%s: %s is %d, and the model has %d", name, row, got, b.Value(row))
 			}
+		}
+		rows := event["capacity"].(map[string]interface{})["rows"].([]interface{})
+		for i, line := range strings.Split(strings.TrimSpace(b.Room), "\n")[1:] {
+			row, cells := rows[i].(map[string]interface{}), strings.Split(line, ",")
+			if row["code"] != cells[0] || fmt.Sprint(row["stripes"]) != cells[1] || fmt.Sprint(row["free_slots"]) != cells[8] {
+				t.Errorf("%s: the capacity is %v, and the model has %s", name, row, line)
+			}
+		}
+		if at := number(t, event, "capacity", "n"); at != b.Value("entries") || len(rows) != 2 {
+			t.Errorf("%s: the capacity is of entry %d, with %d rows", name, at, len(rows))
 		}
 		if nodes := event["nodes"].([]interface{}); len(nodes) != len(b.Nodes) {
 			t.Errorf("%s: %d nodes, and the model has %d", name, len(nodes), len(b.Nodes))
