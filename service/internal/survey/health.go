@@ -31,8 +31,8 @@ type Capacity struct {
 }
 
 const (
-	rest   = 3           // so many times as long as a table took none is made behind it: that of a great book takes seconds
-	looked = time.Minute // the capacity of a book is made anew for so long after somebody asked for it
+	rest   = 3           // none is made for so many times as long as the last one took: that of a great book takes seconds
+	looked = time.Minute // for so long after somebody asked for the capacity of a book it is made anew
 )
 
 // WatchHealth makes the health of each book that has changed, and its capacity where somebody looks at that, one book at a time, until
@@ -75,8 +75,8 @@ func (w *Watcher) renew(name string) time.Duration {
 	return w.now().Sub(begin)
 }
 
-// anew makes a table of a book unless what is known is of now, or took too long. It looks at the book for no longer than its image
-// takes; `take` returns what makes the table of that, beside calls. It returns nil if nothing was made.
+// anew makes a table of a book, unless the one that is known is of now, or took too long to be made again so soon. It looks at the book
+// for no longer than its image takes: what `take` returns makes the table of that, beside calls. It returns nil if nothing was made.
 func (w *Watcher) anew(name string, known *Making, take func(View) (func() error, error)) (*Making, error) {
 	begin, at := w.now(), state.Position{}
 	var finish func() error
