@@ -1,0 +1,4 @@
+pub mod ReachLemmas
+pub mod SameLemmas
+pub mod StepLemmas
+pub mod TouchLemmas

@@ -1,0 +1,11 @@
+//! What an entry changes: the fragments whose home or lease is another one after it, each as a row.
+#![tactic(auto)]
+
+mod change;
+mod changed;
+pub mod laws;
+mod touch;
+
+pub use change::LrcChange;
+pub use changed::{changed_by, put_changes};
+pub use touch::Former;
