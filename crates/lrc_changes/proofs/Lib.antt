@@ -1,3 +1,5 @@
+pub mod HomeLemmas
+pub mod LawLemmas
 pub mod ReachLemmas
 pub mod SameLemmas
 pub mod StepLemmas
