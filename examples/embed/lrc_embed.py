@@ -5,7 +5,7 @@ from ctypes import c_bool, c_size_t, c_uint8, c_uint16, c_uint32, c_uint64, c_vo
 from enum import IntEnum
 from operator import index as whole
 
-VERSION, RULES_VERSION, STRIPES, FRAGMENTS, NARROW_FRAGMENTS, SESSIONS, HISTORY_LIMIT = 6, 1, 4096, 16, 10, 8, 1_000_000
+VERSION, RULES_VERSION, STRIPES, FRAGMENTS, NARROW_FRAGMENTS, SESSIONS, HISTORY_LIMIT = 7, 1, 4096, 16, 10, 8, 1_000_000
 NODES, SLOTS, IMAGE_MOST = 512, 256, 3855418
 IMAGE_ROOM = 1 << 20  # room for the image of a store of 4,096 stripes, but for a few: to ask how much it needs costs as much as it does
 TABLE_ROOM = 1 << 20  # room for the table of as many stripes, for the same reason
@@ -210,6 +210,13 @@ class Recipe(ctypes.Structure):
     def sources(self):
         """The coefficients of the fragments that are read, by fragment."""
         return {fragment: coefficient for fragment, coefficient in enumerate(self.coefficients) if coefficient}
+
+
+class Change(ctypes.Structure):
+    """A fragment whose home or lease a call changed: both before it, and after it."""
+
+    _fields_ = [("stripe", c_uint16), ("fragment", c_uint8), ("was_leased", c_uint8), ("is_leased", c_uint8),
+                ("reserved", c_uint8 * 3), ("home_before", Home), ("home_after", Home), ("lease_before", Lease), ("lease_after", Lease)]
 
 
 class Bytes(ctypes.Structure):
@@ -428,6 +435,20 @@ class Book:
     def call_entry(self, session, command):
         """Makes a call, and returns its entry."""
         return self.result_of("call_entry", Entry(), c_uint8(within("session", session)), ctypes.byref(command))
+
+    def call_changes(self, session, command, room=FRAGMENTS):
+        """Makes a call, and returns its entry and a row for each fragment whose home or lease it changed. `room` is for so many rows
+        at first; a call that needs more is not made, and is asked for again with as many."""
+        entry, count = Entry(), c_size_t()
+        while True:
+            rows = (Change * room)()
+            status = Status(self.status_of("call_changes", c_uint8(within("session", session)), ctypes.byref(command), ctypes.byref(entry),
+                                           rows, c_size_t(room), ctypes.byref(count)))
+            if status == Status.DONE:
+                return entry, rows[:count.value]
+            if status != Status.SHORT:
+                raise Fault("call_changes", status)
+            room = count.value
 
     def calls(self, asked):
         """Makes calls, each a pair of session and command, one after the other, and returns their entries, and the status: done,

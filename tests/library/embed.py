@@ -2,7 +2,7 @@
 
 Usage: tests/library/embed [--long] [FOLDER], where FOLDER has what examples/embed/build makes; by default it is built first.
 
-- The header is compared with lrc_records, lrc_walks and lrc_embed: each struct's size, each field's offset and type, each
+- The header is compared with lrc_records, lrc_walks, lrc_changes and lrc_embed: each struct's size, each field's offset and type, each
   function, each constant; and the structs and constants of the Python module with the header. Compilers take it without a
   warning, and refuse another layout of its structs.
 - The examples in C, C++, Python and Rust print what the rules ask for, and refuse a library of another version.
@@ -37,7 +37,7 @@ from tests.library import images, module, texts
 from tests.library.library import code_word, command_of, load_rows, lrc_embed, of_version, risk_rows
 from tests.model import rules
 
-CRATES = ["lrc_records", "lrc_walks", "lrc_embed"]  # what the header declares: the structs, the outages, and the functions
+CRATES = ["lrc_records", "lrc_walks", "lrc_changes", "lrc_embed"]  # what the header declares: the structs, the outages, and the functions
 EMBED, INCLUDE = f"{EXAMPLES}/embed", f"{TOP}/crates/lrc_embed/include"
 CXX = os.environ.get("CXX", "c++")
 STRICT = ["-Wall", "-Wextra", "-Werror"]

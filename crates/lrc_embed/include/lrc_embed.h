@@ -39,7 +39,7 @@ extern "C" {
 // The version of the interface, which rises with every change of what this header declares: with each function, struct, field
 // and number that is new or means something else. lrc_embed_version() returns that of the library. Compare them at the start,
 // and go on only if they are the same. An lrc_entry has one layout in all versions, so that saved ones stay readable.
-#define LRC_EMBED_VERSION 6
+#define LRC_EMBED_VERSION 7
 
 // The version of the rules: of what each command returns and changes. lrc_embed_rules_version() returns that of the library.
 // A log replays alike in all libraries of one version of the rules. In those of another one a reply may differ, and an image
@@ -385,6 +385,20 @@ typedef struct {
     uint8_t coefficients[LRC_FRAGMENTS]; // by fragment; 0 where the stripe has no such fragment
 } lrc_recipe;
 
+// A fragment whose home or lease a call changed: both before the call, and after it. Where it had or has no lease, all of the
+// lease is 0.
+typedef struct {
+    uint16_t stripe;
+    uint8_t fragment;
+    uint8_t was_leased; // 0 or 1: it had a live lease, which is lease_before
+    uint8_t is_leased;  // 0 or 1: it has one, which is lease_after
+    uint8_t reserved[3];
+    lrc_home home_before;
+    lrc_home home_after;
+    lrc_lease lease_before; // with its expiry, as of lrc_embed_lease
+    lrc_lease lease_after;
+} lrc_change;
+
 // Bytes that are read, and bytes that are written. The pointer may be null if the length is 0.
 typedef struct {
     const uint8_t *at;
@@ -507,6 +521,16 @@ LRC_EMBED_FIELD(lrc_recipe, code, 0)
 LRC_EMBED_FIELD(lrc_recipe, fragment, 1)
 LRC_EMBED_FIELD(lrc_recipe, reserved, 2)
 LRC_EMBED_FIELD(lrc_recipe, coefficients, 8)
+LRC_EMBED_STRUCT(lrc_change, 56, 4)
+LRC_EMBED_FIELD(lrc_change, stripe, 0)
+LRC_EMBED_FIELD(lrc_change, fragment, 2)
+LRC_EMBED_FIELD(lrc_change, was_leased, 3)
+LRC_EMBED_FIELD(lrc_change, is_leased, 4)
+LRC_EMBED_FIELD(lrc_change, reserved, 5)
+LRC_EMBED_FIELD(lrc_change, home_before, 8)
+LRC_EMBED_FIELD(lrc_change, home_after, 16)
+LRC_EMBED_FIELD(lrc_change, lease_before, 24)
+LRC_EMBED_FIELD(lrc_change, lease_after, 40)
 LRC_EMBED_STRUCT(lrc_bytes, 16, 8)
 LRC_EMBED_FIELD(lrc_bytes, at, 0)
 LRC_EMBED_FIELD(lrc_bytes, length, 8)
@@ -537,6 +561,12 @@ uint32_t lrc_embed_open_image(lrc_handle *handle, const uint8_t *nodes, size_t n
 uint32_t lrc_embed_call(lrc_handle *handle, uint8_t session, const lrc_command *command, lrc_reply *reply);
 // The same, with the whole entry as its result, as lrc_embed_entry would return it.
 uint32_t lrc_embed_call_entry(lrc_handle *handle, uint8_t session, const lrc_command *command, lrc_entry *entry);
+// The same, with what the call changed: a row for each fragment whose home or live lease is another one after it, or is there
+// only before or only after it, in rising order of stripe and fragment. What has no row is as it was. DONE, with `*count` rows;
+// or SHORT if there are more than `length`: then the call is not made, and only `count` is written, the rows that it needs. Only
+// LRC_FAIL and LRC_TICK can need more than LRC_FRAGMENTS.
+uint32_t lrc_embed_call_changes(lrc_handle *handle, uint8_t session, const lrc_command *command, lrc_entry *entry,
+                                lrc_change *rows, size_t length, size_t *count);
 
 // Makes `count` calls, one after the other, as lrc_embed_call_entry makes each. Of an entry it reads the session and the command,
 // and it writes the entry of the call there. DONE, if all are made; IS_CLOSED; or OUT_OF_RANGE, FULL or OUT_OF_MEMORY, as of the

@@ -1,4 +1,5 @@
 pub mod BatchLemmas
+pub mod ChangedLemmas
 pub mod CodedLemmas
 pub mod FormLemmas
 pub mod LookLemmas

@@ -23,6 +23,7 @@ pub mod Handles
 pub mod Statuses
 pub mod Calls
 pub mod Entries
+pub mod Changed
 pub mod Batches
 pub mod Walks
 pub mod Names

@@ -5,6 +5,7 @@
 
 mod batch;
 mod call;
+mod changes;
 mod coding;
 mod entries;
 mod forecast;

@@ -13,7 +13,7 @@ pub const LRC_CLOSED: lrc_handle = lrc_handle { is_open: false, at: core::ptr::n
 /// The version of the interface, which rises with every change of what this header declares: with each function, struct, field and
 /// number that is new or means something else. lrc_embed_version() returns that of the library. Compare them at the start, and go
 /// on only if they are the same. An lrc_entry has one layout in all versions, so that saved ones stay readable.
-pub const LRC_EMBED_VERSION: u32 = 6;
+pub const LRC_EMBED_VERSION: u32 = 7;
 
 /// The version of the rules: of what each command returns and changes. lrc_embed_rules_version() returns that of the library. A
 /// log replays alike in all libraries of one version of the rules. In those of another one a reply may differ, and an image may be
@@ -506,6 +506,25 @@ pub struct lrc_recipe {
     pub coefficients: [u8; LRC_FRAGMENTS],
 }
 
+/// A fragment whose home or lease a call changed: both before the call, and after it. Where it had or has no lease, all of the
+/// lease is 0.
+#[repr(C)]
+#[derive(Clone, Copy, Debug, Default, PartialEq, Eq, Hash)]
+pub struct lrc_change {
+    pub stripe: u16,
+    pub fragment: u8,
+    /// 0 or 1: it had a live lease, which is lease_before
+    pub was_leased: u8,
+    /// 0 or 1: it has one, which is lease_after
+    pub is_leased: u8,
+    pub reserved: [u8; 3],
+    pub home_before: lrc_home,
+    pub home_after: lrc_home,
+    /// with its expiry, as of lrc_embed_lease
+    pub lease_before: lrc_lease,
+    pub lease_after: lrc_lease,
+}
+
 /// Bytes that are read, and bytes that are written. The pointer may be null if the length is 0.
 #[repr(C)]
 #[derive(Clone, Copy, Debug)]
@@ -618,6 +637,16 @@ const _: () = {
     assert!(offset_of!(lrc_recipe, fragment) == 1);
     assert!(offset_of!(lrc_recipe, reserved) == 2);
     assert!(offset_of!(lrc_recipe, coefficients) == 8);
+    assert!(size_of::<lrc_change>() == 56 && align_of::<lrc_change>() == 4);
+    assert!(offset_of!(lrc_change, stripe) == 0);
+    assert!(offset_of!(lrc_change, fragment) == 2);
+    assert!(offset_of!(lrc_change, was_leased) == 3);
+    assert!(offset_of!(lrc_change, is_leased) == 4);
+    assert!(offset_of!(lrc_change, reserved) == 5);
+    assert!(offset_of!(lrc_change, home_before) == 8);
+    assert!(offset_of!(lrc_change, home_after) == 16);
+    assert!(offset_of!(lrc_change, lease_before) == 24);
+    assert!(offset_of!(lrc_change, lease_after) == 40);
     assert!(size_of::<lrc_bytes>() == 16 && align_of::<lrc_bytes>() == 8);
     assert!(offset_of!(lrc_bytes, at) == 0);
     assert!(offset_of!(lrc_bytes, length) == 8);
@@ -654,6 +683,19 @@ extern "C" {
     pub fn lrc_embed_call(handle: *mut lrc_handle, session: u8, command: *const lrc_command, reply: *mut lrc_reply) -> u32;
     /// The same, with the whole entry as its result, as lrc_embed_entry would return it.
     pub fn lrc_embed_call_entry(handle: *mut lrc_handle, session: u8, command: *const lrc_command, entry: *mut lrc_entry) -> u32;
+    /// The same, with what the call changed: a row for each fragment whose home or live lease is another one after it, or is there
+    /// only before or only after it, in rising order of stripe and fragment. What has no row is as it was. DONE, with `*count`
+    /// rows; or SHORT if there are more than `length`: then the call is not made, and only `count` is written, the rows that it
+    /// needs. Only LRC_FAIL and LRC_TICK can need more than LRC_FRAGMENTS.
+    pub fn lrc_embed_call_changes(
+        handle: *mut lrc_handle,
+        session: u8,
+        command: *const lrc_command,
+        entry: *mut lrc_entry,
+        rows: *mut lrc_change,
+        length: usize,
+        count: *mut usize,
+    ) -> u32;
     /// Makes `count` calls, one after the other, as lrc_embed_call_entry makes each. Of an entry it reads the session and the
     /// command, and it writes the entry of the call there. DONE, if all are made; IS_CLOSED; or OUT_OF_RANGE, FULL or
     /// OUT_OF_MEMORY, as of the first call that can't be made. The calls before that one are made and stay, `made` is their
