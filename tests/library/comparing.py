@@ -121,6 +121,33 @@ def compare_code(found, right):
     expect("after the sources", list(found.sources[sources:]), [0] * (len(found.sources) - sources))
 
 
+def fragments_in_model(store):
+    """The homes and the leases of a store, by stripe and fragment."""
+    seats = {key: "%d:%d" % seat for key, seat in store.homes.items()}
+    return seats, {key: lease_in_model(store, key) for key in store.leases}
+
+
+def changes_in_model(was, now):
+    """The fragments whose home or lease differs, in order, with the homes and the leases before and after."""
+    keys = sorted({key for held in (*was, *now) for key in held})
+    rows = [(key, was[0].get(key), now[0].get(key), was[1].get(key), now[1].get(key)) for key in keys]
+    return [row for row in rows if row[1] != row[2] or row[3] != row[4]]
+
+
+def change_in_book(row):
+    """The same of a row of the library."""
+    key = row.stripe, row.fragment
+    expect("what is reserved in a row", bytes(row.reserved), bytes(3))
+    homes = [str(home.seat) if home.is_there else None for home in (row.home_before, row.home_after)]
+    leases = []
+    for is_there, lease in ((row.was_leased, row.lease_before), (row.is_leased, row.lease_after)):
+        expect("the fragment of a lease", (lease.stripe, lease.fragment), key if is_there else (0, 0))
+        leases.append((lease.holder, str(lease.target), lease.epoch, lease.expiry) if is_there else None)
+        if not is_there:
+            expect("a lease that is not there", bytes(lease), bytes(len(bytes(lease))))
+    return key, *homes, *leases
+
+
 def status_of(call):
     """The status of a call of the library."""
     try:
@@ -139,17 +166,24 @@ def make(book, store, session, line, count, looks=False):
         elsewhere = status_of(lambda: book.call_at(count + 1, session, command))
         expect("a call elsewhere", elsewhere, lrc_embed.Status.MOVED)
         compare(book, store, count)
-    # (in turn by the three ways of a call)
-    planned = book.peek_entry(session, command)
+    # (in turn by the four ways of a call)
+    planned, rows = book.peek_entry(session, command), None
     if looks:
         found = book.call_at(book.before() + book.count(), session, command)
-    elif count % 2:
+    elif count % 3 == 0:
+        made, rows = book.call_changes(session, command, count % 4)
+        expect("entry of the call", bytes(made), bytes(book.entry(book.count() - 1)))
+        found = made.reply
+    elif count % 3 == 1:
         made = book.call_entry(session, command)
         expect("entry of the call", bytes(made), bytes(book.entry(book.count() - 1)))
         found = made.reply
     else:
         found = book.call(session, command)
+    was = fragments_in_model(store)
     right = store.call(session, line)
+    if rows is not None:
+        expect("what the call changed", [change_in_book(row) for row in rows], changes_in_model(was, fragments_in_model(store)))
     expect("reply", str(found), right)
     expect("reply that a peek reports", bytes(peeked), bytes(found))
     compare_code(found, right)

@@ -1059,6 +1059,7 @@ static void forgets(void) {
 
 #include "embed_texts.h"
 #include "embed_batches.h"
+#include "embed_changes.h"
 
 static uint32_t open_image(const char *nodes, const char *text, size_t *detail, uint32_t *cause) {
     uint32_t status;
@@ -1286,6 +1287,7 @@ static void fill(void) {
     WANT(lrc_embed_call(&handle, 1, &command, &reply) == LRC_FULL && reply.kind == 99);
     WANT(lrc_embed_peek(&handle, 1, &command, &reply) == LRC_FULL && reply.kind == 99);
     WANT(lrc_embed_calls(&handle, &entry, 1, &position) == LRC_FULL && position == 0 && entry.reply.kind == 0);
+    WANT(lrc_embed_call_changes(&handle, 1, &command, &entry, 0, 0, &position) == LRC_FULL && position == 0 && entry.reply.kind == 0);
     WANT(count_of() == LRC_HISTORY_LIMIT);
     const lrc_command tick = {.kind = LRC_TICK};
     uint32_t clock = 99;
@@ -1321,6 +1323,7 @@ int main(int argc, char **argv) {
     closed();
     texts_of_closed();
     batches_of_closed();
+    changes_of_closed();
     open_twenty();
     WANT(lrc_embed_open(&handle, (const uint8_t *)"", 0, &(size_t){0}) == LRC_IS_OPEN);
     ranges();
@@ -1347,6 +1350,7 @@ int main(int argc, char **argv) {
     forgets();
     texts_of_book();
     batches();
+    calls_with_changes();
     begins();
     if (is_full || strcmp(word, "images") == 0) { // once, and not for each request that is refused
         refused_images();

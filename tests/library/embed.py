@@ -42,7 +42,7 @@ EMBED, INCLUDE = f"{EXAMPLES}/embed", f"{TOP}/crates/lrc_embed/include"
 CXX = os.environ.get("CXX", "c++")
 STRICT = ["-Wall", "-Wextra", "-Werror"]
 # The version of the header, and a sum of what it declares.
-INTERFACE = "6", "16aa2a3b648d"
+INTERFACE = "7", "b37e8f384290"
 COUNTED = ["-Wl,--wrap=malloc,--wrap=realloc,--wrap=free"]
 
 
