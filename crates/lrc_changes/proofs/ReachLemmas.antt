@@ -1,10 +1,10 @@
 -- All that a command touches is within its reach, so a walk over that finds it.
-use Rattle.std.proofs.Common.{◌≡◌, ℕ, ◌+◌, ◌*◌, ◌-◌, ◌/◌, ◌%◌, ◌<◌, ◌≤◌, zero, suc, Bool, true, false, if◌then◌else◌, ◌&&◌, nat_eq, eqb, List, [], ◌∷◌, ◌++◌, map, count_by, Option, Some, None, inl, inr, refl, sym, ap, ap₂, ◌∙◌, subst, append-nil, arith}
+use Rattle.std.proofs.Common.{◌≡◌, ℕ, ◌+◌, ◌*◌, ◌-◌, ◌/◌, ◌<◌, ◌≤◌, zero, suc, Bool, true, false, if◌then◌else◌, ◌&&◌, nat_eq, List, [], ◌++◌, map, count_by, Option, Some, None, refl, sym, ap, ◌∙◌, subst, append-nil, arith}
 use Rattle.std.specs.Prelude.{filter}
-use Rattle.std.specs.List.{Contains, filter_map, range_with_len, cons_option}
+use Rattle.std.specs.List.{filter_map, range_with_len, cons_option}
 use Rattle.std.proofs.Math.Path.{fun_ext}
 use Rattle.std.proofs.Math.Nat.{mod-eq_of_lt}
-use Rattle.std.proofs.lemmas.Bool.{cases_Bool, cases_lt, eqb-true, eq-eqb, and_parts}
+use Rattle.std.proofs.lemmas.Bool.{eqb-true, and_parts}
 use Rattle.std.proofs.lemmas.List.Elements.{filter_map-append, All-contains}
 use Rattle.lrc_code.specs.declared.numbers.StripeNo.{StripeNo}
 use Rattle.lrc_code.specs.declared.numbers.SessionNo.{SessionNo}
@@ -12,10 +12,10 @@ use Rattle.lrc_code.specs.Numbers.{same_stripe}
 use Rattle.lrc_topology.specs.declared.NodeInfo.{NodeInfo}
 use Rattle.lrc_terms.specs.declared.lease.Lease.{Lease as LeaseRecord}
 use Rattle.lrc_terms.specs.Leased.{ends_at}
-use Rattle.lrc_terms.specs.Stripes.{StripeFragment, stripe_at}
+use Rattle.lrc_terms.specs.Stripes.{StripeFragment}
 use Rattle.lrc_terms.proofs.LeaseLemmas.{leases_in-contains}
 use Rattle.lrc_rules.specs.declared.command.Command.{Command}
-use Rattle.lrc_rules.specs.declared.command.Command.TheVariants.{Place, Place6, Drop, Lease, Next, Done, Abandon, Revoke, Fail, Tick}
+use Rattle.lrc_rules.specs.declared.command.Command.TheVariants.{Place, Place6, Drop, Done, Abandon, Revoke, Fail, Tick}
 use Rattle.lrc_rules.specs.declared.reply.Reply.{Reply}
 use Rattle.lrc_rules.specs.declared.reply.Reply.TheVariants.{Placed, Placed6, Dropped, Granted, Idle, Ended, Changed, Ticked, Refused}
 use Rattle.lrc_rules.specs.declared.entry.Entry.{Entry}
@@ -31,7 +31,7 @@ use Rattle.lrc_walks.specs.WalkRows.{place_at}
 use Rattle.lrc_walks.proofs.FoundLemmas.{found-part, found-map, found-passing, range-split}
 use Rattle.lrc_walks.proofs.PlaceLemmas.{places-are}
 use Rattle.lrc_changes.specs.declared.touch.Former.{Former}
-use Rattle.lrc_changes.specs.Changes.{lease_at, is_changed, former, changed}
+use Rattle.lrc_changes.specs.Changes.{lease_at, former, changed}
 use Rattle.lrc_changes.specs.Touched.{ends, touches, touched_at, places_of, reach_of, reach}
 use Rattle.lrc_changes.proofs.StepLemmas.{touched-right}
 

@@ -1,26 +1,24 @@
 -- A command changes exactly the fragments that it touches.
-use Rattle.std.proofs.Common.{◌≡◌, ◌≢◌, ℕ, ◌+◌, ◌<◌, Bool, true, false, not, ◌&&◌, ◌||◌, if◌then◌else◌, nat_eq, nat_lt, eqb, List, [], ◌∷◌, ◌++◌, map, filter, find, length, Option, Some, None, is_some, refl, sym, ap, ap₂, ◌∙◌, subst, inl, inr, arith}
+use Rattle.std.proofs.Common.{◌≡◌, ◌≢◌, ◌+◌, Bool, true, false, not, ◌&&◌, ◌||◌, if◌then◌else◌, nat_lt, eqb, List, [], ◌∷◌, filter, find, length, Option, Some, None, is_some, refl, sym, ap, ap₂, ◌∙◌, subst, inl, inr, arith}
 use Rattle.std.specs.Prelude.{slice_get}
-use Rattle.std.specs.List.{list_any, Contains}
+use Rattle.std.specs.List.{list_any}
 use Rattle.std.specs.Option.{option_map_or}
 use Rattle.std.proofs.lemmas.Map.Entries.{option_filter}
 use Rattle.std.proofs.lemmas.Bool.{cases_Bool, eqb-true, eq-eqb, and_parts, and_from, lt-ltb, le-ltb, eqb-false}
 use Rattle.std.proofs.lemmas.Option.{slice_get_cases}
 use Rattle.lrc_code.specs.declared.codes.Code.{Code}
-use Rattle.lrc_code.specs.declared.codes.Code.TheVariants.{Wide, Narrow}
 use Rattle.lrc_code.specs.declared.numbers.StripeNo.{StripeNo}
 use Rattle.lrc_code.specs.declared.numbers.NodeNo.{NodeNo}
-use Rattle.lrc_code.specs.declared.numbers.SessionNo.{SessionNo}
 use Rattle.lrc_code.specs.declared.numbers.Fragment.{Fragment}
 use Rattle.lrc_code.specs.Codes.{fragments}
-use Rattle.lrc_code.specs.Numbers.{same_stripe, same_fragment, same_node}
+use Rattle.lrc_code.specs.Numbers.{same_stripe, same_fragment}
 use Rattle.lrc_code.proofs.NumbersLemmas.{equal_stripes, equal_fragments}
 use Rattle.lrc_topology.specs.declared.NodeInfo.{NodeInfo}
 use Rattle.lrc_topology.specs.declared.seat.Seat.{Seat}
 use Rattle.lrc_topology.specs.declared.seat.Held.{Held}
 use Rattle.lrc_terms.specs.Levels.{home_of, homes_of}
 use Rattle.lrc_terms.specs.declared.lease.Lease.{Lease as LeaseRecord}
-use Rattle.lrc_terms.specs.Leased.{Leased, is_target_on, ends_at}
+use Rattle.lrc_terms.specs.Leased.{Leased, ends_at}
 use Rattle.lrc_terms.specs.Stripes.{StripeFragment}
 use Rattle.lrc_terms.proofs.LeaseLemmas.{leased_of-append, leased_of-less, leases_in-less_stripe, leases_in-filter, leases_in-own}
 use Rattle.lrc_rules.specs.declared.node_command.NodeCommand.TheVariants as node
@@ -28,7 +26,7 @@ use Rattle.lrc_rules.specs.States.{State, has_stripe, lease_of, is_home_of}
 use Rattle.lrc_rules.specs.Goodness.{AreSeated}
 use Rattle.lrc_rules.specs.Steps.{stands_on, hangs_on, without_stripe, changed_on}
 use Rattle.lrc_rules.specs.Leases.{with_lease, without_lease, moved_in, ticked}
-use Rattle.lrc_rules.specs.Changes.{held_at, with_placed, with_done}
+use Rattle.lrc_rules.specs.Changes.{held_at, with_placed}
 use Rattle.lrc_rules.proofs.MemberLemmas.{find-member, filter-member, member-list_any}
 use Rattle.lrc_rules.proofs.PlacedHomesLemmas.{none-added, before-none, after-none, homes-append, numbered-homes, fragments-numbered}
 use Rattle.lrc_rules.proofs.LookUpLemmas.{is_of, seat_in, no_home, home-only, homes-without}

@@ -1,5 +1,5 @@
 -- What differs between two states, as rows: the fragments whose home or lease is another one.
-use Rattle.std.specs.Prelude.{Bool, true, false, not, ◌&&◌, if◌then◌else◌, nat_eq, List, map, filter, replicate, Option, Some, None, is_some}
+use Rattle.std.specs.Prelude.{Bool, true, false, not, ◌&&◌, nat_eq, List, map, filter, replicate, Option, Some, None, is_some}
 use Rattle.lrc_code.specs.Numbers.{same_stripe, same_fragment, same_node}
 use Rattle.lrc_topology.specs.declared.seat.Seat.{Seat}
 use Rattle.lrc_terms.specs.declared.lease.Lease.{Lease}

@@ -4,8 +4,8 @@ ghost use Rattle.lrc_records.specs.Shown.{encoded_home};
 ghost use Rattle.lrc_changes.specs.Changes.{encoded_change, lease_record};
 
 use crate::Former;
-use lrc_rules::{Lease, Seat};
 use lrc_records::{LrcHome, LrcLease, LrcSeat};
+use lrc_rules::{Lease, Seat};
 
 /// A fragment whose home or lease a call changed: both before the call, and after it. `was_leased` and `is_leased` are 1
 /// where it had or has a lease; else they are 0, and so is all of the lease.

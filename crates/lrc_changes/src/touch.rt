@@ -3,8 +3,8 @@
 ghost use Rattle.std.specs.Prelude.{◌≡◌};
 ghost use Rattle.lrc_changes.specs.Touched.{touches, is_placed, is_placed_narrow, is_dropped, is_let_go, is_emptied, sits_on, hangs_over, ends, reach_of, places_of, reach};
 
-use lrc_rules::{Command, Entry, Lease, Reply, Seat};
 use lrc_code::{FRAGMENTS, Fragment, NARROW_FRAGMENTS, NodeNo, STRIPES, StripeNo};
+use lrc_rules::{Command, Entry, Lease, Reply, Seat};
 
 /// How many fragments all stripe numbers have.
 const PLACES: usize = STRIPES * FRAGMENTS;
@@ -132,13 +132,7 @@ pub(crate) fn reach(entry: &Entry) -> (usize, usize)
     match entry.reply {
         Reply::Idle | Reply::Refused(_) => (0, 0),
         Reply::Granted(lease, _) => places_of(lease.stripe),
-        Reply::Ticked { ended, .. } => {
-            if ended == 0 {
-                (0, 0)
-            } else {
-                (0, PLACES)
-            }
-        }
+        Reply::Ticked { ended, .. } => { if ended == 0 { (0, 0) } else { (0, PLACES) } }
         _ => reach_of(entry.command),
     }
 }

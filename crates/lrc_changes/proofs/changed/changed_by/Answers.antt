@@ -1,4 +1,4 @@
-use Rattle.std.proofs.Common.{◌≡◌, ◌-◌, ℕ, IfOk, List, map, subst, ap, ◌∙◌}
+use Rattle.std.proofs.Common.{◌≡◌, ◌-◌, ℕ, IfOk, List, subst, ap, ◌∙◌}
 use Rattle.std.specs.List.{filter_map, range_with_len}
 use Rattle.lrc_book.specs.Books.{state_of, world_of}
 use Rattle.lrc_changes.specs.declared.touch.Former.{Former}

@@ -1,7 +1,7 @@
-use Rattle.std.proofs.Common.{◌≡◌, Some, None, ap, ◌∙◌, rules}
+use Rattle.std.proofs.Common.{◌≡◌, None, ◌∙◌, rules}
 use Rattle.lrc_rules.specs.States.{homes_shown}
 use Rattle.lrc_book.specs.Books.{state_of}
-use Rattle.lrc_changes.proofs.HomeLemmas.{shown-none, shown-some}
+use Rattle.lrc_changes.proofs.HomeLemmas.{shown-none}
 use Rattle.lrc_changes.proofs.changed.home_of.Goals as goal
 
 pub returns-in_err-packed_homes : goal.returns-in_err-packed_homes

@@ -1,7 +1,5 @@
 use Rattle.std.proofs.Common.{◌≡◌, ◌/◌, ◌%◌, Some, true, false, ap, ◌∙◌, rules}
-use Rattle.lrc_terms.specs.Stripes.{StripeFragment}
 use Rattle.lrc_book.specs.Books.{state_of}
-use Rattle.lrc_walks.specs.WalkRows.{place_at}
 use Rattle.lrc_walks.proofs.PlaceLemmas.{place-is}
 use Rattle.lrc_changes.specs.declared.touch.Former.{Former}
 use Rattle.lrc_changes.specs.Changes.{former}

@@ -29,5 +29,5 @@ returns-clause-short c = λ short. of_some _ c.in-Some-take.ensures.book (
   c.in-Some.ensures.value,
   c.in-Some-read.ensures.value,
   subst (λ (b : BookView). HasNoRoom b c.in-Some.session c.in-Some-read.command (length c.args.rows.now) c.step_with_changes-status.new.count)
-  c.deref_mut.ensures.value (c.step_with_changes-status.ensures.short short),
+      c.deref_mut.ensures.value (c.step_with_changes-status.ensures.short short),
 )
