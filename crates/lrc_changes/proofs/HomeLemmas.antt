@@ -20,25 +20,25 @@ use Rattle.lrc_rules.proofs.LookUpLemmas.{seat_in, no_home}
 use Rattle.lrc_walks.specs.WalkRows.{place_at}
 use Rattle.lrc_walks.proofs.FoundLemmas.{range-split}
 use Rattle.lrc_changes.specs.declared.touch.Former.{Former}
-use Rattle.lrc_changes.specs.Changes.{home_at, former}
+use Rattle.lrc_changes.specs.Changes.{own_home, former}
 use Rattle.lrc_changes.specs.Touched.{touches, touched_at}
 
 module _ (st : State) (s : StripeNo) (f : Fragment) where
   abbrev seats : List (Option Seat)
   seats = map (λ (g : Fragment). homes_of st.homes s g.value) all_fragments
 
-  pub shown-none : (nodes : List NodeInfo) → AreSeated nodes st → None ≡ homes_shown st s → None ≡ home_at st (s, f)
+  pub shown-none : (nodes : List NodeInfo) → AreSeated nodes st → None ≡ homes_shown st s → None ≡ own_home st (s, f)
   shown-none nodes seated is = by (has_stripe st s) refl is where
-    by : (b : Bool) → has_stripe st s ≡ b → ◌≡◌ {A = Option (List (Option Seat))} None (if b then Some seats else None) → None ≡ home_at st (s, f)
+    by : (b : Bool) → has_stripe st s ≡ b → ◌≡◌ {A = Option (List (Option Seat))} None (if b then Some seats else None) → None ≡ own_home st (s, f)
     by true there is = absurd (cc)
     by false absent is = sym (ap seat_in (no_home nodes st s f.value seated absent))
 
-  pub shown-some : (homes : List (Option Seat)) → Some homes ≡ homes_shown st s → get_or homes f.value None ≡ home_at st (s, f)
+  pub shown-some : (homes : List (Option Seat)) → Some homes ≡ homes_shown st s → get_or homes f.value None ≡ own_home st (s, f)
   shown-some homes is = by (has_stripe st s) is where
     first : Fragment
     first = record { value = 0; in_range = lit< tt }
 
-    by : (b : Bool) → Some homes ≡ (if b then Some seats else None) → get_or homes f.value None ≡ home_at st (s, f)
+    by : (b : Bool) → Some homes ≡ (if b then Some seats else None) → get_or homes f.value None ≡ own_home st (s, f)
     by false is = absurd (cc)
     by true is =
         ap (λ (l : List (Option Seat)). get_or l f.value None) (same_Some homes seats is)

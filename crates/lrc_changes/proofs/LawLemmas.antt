@@ -12,7 +12,7 @@ use Rattle.lrc_rules.proofs.MemberLemmas.{filter-member, member-filter}
 use Rattle.lrc_book.specs.Looks.{places}
 use Rattle.lrc_walks.specs.WalkRows.{place_at}
 use Rattle.lrc_walks.proofs.PlaceLemmas.{places-are, place-is}
-use Rattle.lrc_changes.specs.Changes.{home_at, lease_at, is_same_home, is_same_lease, is_changed, changed}
+use Rattle.lrc_changes.specs.Changes.{own_home, own_lease, is_same_home, is_same_lease, is_changed, changed}
 use Rattle.lrc_changes.proofs.SameLemmas.{home-own, lease-own, stayed, differs}
 
 -- ---- all places
@@ -76,13 +76,13 @@ module _ (was now : State) where
     unfolding changed
     tested here = (filter-member (is_changed was now) places p here).1
 
-    apart : (a b : Bool) → a ≡ is_same_home (home_at was p) (home_at now p) → b ≡ is_same_lease (lease_at was p) (lease_at now p) → not (a && b) ≡ true
+    apart : (a b : Bool) → a ≡ is_same_home (own_home was p) (own_home now p) → b ≡ is_same_lease (own_lease was p) (own_lease now p) → not (a && b) ≡ true
         → (a ≡ false) ⊎ (b ≡ false)
     apart false b home lease hit = inl refl
     apart true false home lease hit = inr refl
     apart true true home lease hit = absurd (let never : false ≡ true = hit in cc)
 
-    pub changed-each : Contains (changed was now) p ↔ ((home_at was p ≢ home_at now p) ⊎ (lease_at was p ≢ lease_at now p))
+    pub changed-each : Contains (changed was now) p ↔ ((own_home was p ≢ own_home now p) ⊎ (own_lease was p ≢ own_lease now p))
     changed-each = (
       λ here. by (is_changed was now p) (tested here),
       λ parts. listed (elim parts [
@@ -90,18 +90,18 @@ module _ (was now : State) where
         | inr lease ↦ differs was now p (λ h l. lease l)
       ]),
     ) where
-      by : (b : Bool) → is_changed was now p ≡ true → (home_at was p ≢ home_at now p) ⊎ (lease_at was p ≢ lease_at now p)
+      by : (b : Bool) → is_changed was now p ≡ true → (own_home was p ≢ own_home now p) ⊎ (own_lease was p ≢ own_lease now p)
       by b hit = elim (apart _ _ refl refl hit) [
         | inl other ↦ inl (λ same. clash-home same other)
         | inr other ↦ inr (λ same. clash-lease same other)
       ] where
-        clash-home : home_at was p ≡ home_at now p → is_same_home (home_at was p) (home_at now p) ≡ false → ⊥
-        clash-home same other = (let both : true ≡ false = sym (ap (is_same_home (home_at was p)) (sym same) ∙ home-own (home_at was p)) ∙ other in cc)
+        clash-home : own_home was p ≡ own_home now p → is_same_home (own_home was p) (own_home now p) ≡ false → ⊥
+        clash-home same other = (let both : true ≡ false = sym (ap (is_same_home (own_home was p)) (sym same) ∙ home-own (own_home was p)) ∙ other in cc)
 
-        clash-lease : lease_at was p ≡ lease_at now p → is_same_lease (lease_at was p) (lease_at now p) ≡ false → ⊥
-        clash-lease same other = (let both : true ≡ false = sym (ap (is_same_lease (lease_at was p)) (sym same) ∙ lease-own (lease_at was p)) ∙ other in cc)
+        clash-lease : own_lease was p ≡ own_lease now p → is_same_lease (own_lease was p) (own_lease now p) ≡ false → ⊥
+        clash-lease same other = (let both : true ≡ false = sym (ap (is_same_lease (own_lease was p)) (sym same) ∙ lease-own (own_lease was p)) ∙ other in cc)
 
-    pub others-stay : ¬ Contains (changed was now) p → (home_at was p ≡ home_at now p) × (lease_at was p ≡ lease_at now p)
+    pub others-stay : ¬ Contains (changed was now) p → (own_home was p ≡ own_home now p) × (own_lease was p ≡ own_lease now p)
     others-stay none = elim (cases_Bool (is_changed was now p)) [
       | inl hit ↦ absurd (none (listed hit))
       | inr miss ↦ stayed was now p miss

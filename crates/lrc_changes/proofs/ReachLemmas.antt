@@ -31,7 +31,7 @@ use Rattle.lrc_walks.specs.WalkRows.{place_at}
 use Rattle.lrc_walks.proofs.FoundLemmas.{found-part, found-map, found-passing, range-split}
 use Rattle.lrc_walks.proofs.PlaceLemmas.{places-are}
 use Rattle.lrc_changes.specs.declared.touch.Former.{Former}
-use Rattle.lrc_changes.specs.Changes.{lease_at, former, changed}
+use Rattle.lrc_changes.specs.Changes.{own_lease, former, changed}
 use Rattle.lrc_changes.specs.Touched.{ends, touches, touched_at, places_of, reach_of, reach}
 use Rattle.lrc_changes.proofs.StepLemmas.{touched-right}
 
@@ -67,7 +67,7 @@ own-place s k low own =
 
 module _ (nodes : List NodeInfo) (past : List Entry) (st : State) (session : SessionNo) where
   -- no lease ends if none is counted
-  none-ends : (clock : ℕ) (p : StripeFragment) (o : Option LeaseRecord) → lease_at st p ≡ o → count_by (ends_at clock) st.leases ≡ 0 → ends clock o ≡ true → ⊥
+  none-ends : (clock : ℕ) (p : StripeFragment) (o : Option LeaseRecord) → own_lease st p ≡ o → count_by (ends_at clock) st.leases ≡ 0 → ends clock o ≡ true → ⊥
   none-ends clock p None is none hit = (let never : false ≡ true = hit in cc)
   none-ends clock p (Some l) is none hit =
       let miss = All-contains (λ (m : LeaseRecord). ends_at clock m ≡ false) st.leases l (count-none (ends_at clock) st.leases none) (leases_in-contains st.leases p.0 p.1.value l is) in
@@ -99,7 +99,7 @@ module _ (nodes : List NodeInfo) (past : List Entry) (st : State) (session : Ses
       by true none =
           let same : (st.clock + 1 ≡ clock) × (count_by (ends_at (st.clock + 1)) st.leases ≡ ended) = same_ticked _ _ clock ended told in
           let zero_count : count_by (ends_at (st.clock + 1)) st.leases ≡ 0 = same.1 ∙ eqb-true ended 0 none in
-          absurd (none-ends clock (place_at k) (lease_at st (place_at k)) refl (subst (λ (n : ℕ). count_by (ends_at n) st.leases ≡ 0) same.0 zero_count) hit)
+          absurd (none-ends clock (place_at k) (own_lease st (place_at k)) refl (subst (λ (n : ℕ). count_by (ends_at n) st.leases ≡ 0) same.0 zero_count) hit)
     in-reach c (Ticked clock ended) told hit = absurd (let never : false ≡ true = gets c (Ticked clock ended) told in cc)
     in-reach c (Granted l kind) told hit = own-first l.stripe _ hit
     in-reach c r told hit = absurd (let never : false ≡ true = hit in cc)

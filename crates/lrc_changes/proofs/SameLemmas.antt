@@ -1,28 +1,13 @@
 -- The tests for the same home and the same lease.
-use Rattle.std.proofs.Common.{◌≡◌, ℕ, ◌≤◌, subst, Bool, true, false, not, ◌&&◌, eqb, Option, Some, None, refl, sym, ap, ap₂, ◌∙◌, inl, inr}
-use Rattle.std.specs.Coded.{le_prop}
+use Rattle.std.proofs.Common.{◌≡◌, Bool, true, false, not, ◌&&◌, eqb, Option, Some, None, refl, sym, ap, ap₂, ◌∙◌, inl, inr}
 use Rattle.std.proofs.lemmas.Bool.{cases_Bool, eqb-true, eq-eqb, and_parts}
-use Rattle.lrc_code.specs.declared.numbers.SessionNo.{SessionNo}
 use Rattle.lrc_code.proofs.NumbersLemmas.{equal_stripes, equal_fragments, equal_nodes}
 use Rattle.lrc_topology.specs.declared.seat.Seat.{Seat}
 use Rattle.lrc_terms.specs.declared.lease.Lease.{Lease}
 use Rattle.lrc_terms.specs.Stripes.{StripeFragment}
 use Rattle.lrc_rules.specs.States.{State}
-use Rattle.lrc_changes.specs.Changes.{home_at, lease_at, is_same_seat, is_same_home, is_same_lease, is_changed}
-
-low_range : (n : ℕ) → IsProp (1 ≤ n)
-low_range n = le_prop
-
-high_range : (n : ℕ) → IsProp (n ≤ 8)
-high_range n = le_prop
-
-session_range : (n : ℕ) → IsProp ((1 ≤ n) × (n ≤ 8))
-session_range n a b = ap (λ (x : 1 ≤ n). (x, a.1)) (low_range n a.0 b.0) ∙ ap (λ (y : n ≤ 8). (b.0, y)) (high_range n a.1 b.1)
-
-equal_sessions : (a b : SessionNo) → a.value ≡ b.value → a ≡ b
-equal_sessions a b e =
-    subst (λ n. (h : (1 ≤ n) × (n ≤ 8)) → a ≡ record { value = n; in_range = h }) e
-    (λ h. ap (λ (i : (1 ≤ a.value) × (a.value ≤ 8)). record { value = a.value; in_range = i }) (session_range a.value a.in_range h)) b.in_range
+use Rattle.lrc_rules.proofs.ReportedLemmas.{held-session}
+use Rattle.lrc_changes.specs.Changes.{own_home, own_lease, is_same_seat, is_same_home, is_same_lease, is_changed}
 
 seat-own : (a : Seat) → is_same_seat a a ≡ true
 seat-own a = rw (eq-eqb a.node.value a.node.value refl, eq-eqb a.slot a.slot refl) refl
@@ -66,26 +51,26 @@ same-lease (Some a) (Some b) e =
     let t = and_parts (eqb a.epoch b.epoch) (eqb a.expiry b.expiry) s.1 in
     ap (λ (l : Lease). Some l)
     (equal_lease a b (equal_stripes a.stripe b.stripe (eqb-true _ _ p.0)) (equal_fragments a.fragment b.fragment (eqb-true _ _ q.0))
-    (equal_sessions a.holder b.holder (eqb-true _ _ r.0)) (same-seat a.target b.target s.0) (eqb-true _ _ t.0) (eqb-true _ _ t.1))
+    (held-session b.holder a r.0) (same-seat a.target b.target s.0) (eqb-true _ _ t.0) (eqb-true _ _ t.1))
 
 module _ (was now : State) (p : StripeFragment) where
-  pub stays : home_at was p ≡ home_at now p → lease_at was p ≡ lease_at now p → is_changed was now p ≡ false
+  pub stays : own_home was p ≡ own_home now p → own_lease was p ≡ own_lease now p → is_changed was now p ≡ false
   stays home lease =
       ap₂ (λ (h l : Bool). not (h && l))
-      (ap (is_same_home (home_at was p)) (sym home) ∙ home-own (home_at was p))
-      (ap (is_same_lease (lease_at was p)) (sym lease) ∙ lease-own (lease_at was p))
+      (ap (is_same_home (own_home was p)) (sym home) ∙ home-own (own_home was p))
+      (ap (is_same_lease (own_lease was p)) (sym lease) ∙ lease-own (own_lease was p))
 
   -- a fragment that is not changed is as it was
-  pub stayed : is_changed was now p ≡ false → (home_at was p ≡ home_at now p) × (lease_at was p ≡ lease_at now p)
+  pub stayed : is_changed was now p ≡ false → (own_home was p ≡ own_home now p) × (own_lease was p ≡ own_lease now p)
   stayed e =
-      let both = and_parts (is_same_home (home_at was p) (home_at now p)) (is_same_lease (lease_at was p) (lease_at now p)) (by _ e) in
+      let both = and_parts (is_same_home (own_home was p) (own_home now p)) (is_same_lease (own_lease was p) (own_lease now p)) (by _ e) in
       (same-home _ _ both.0, same-lease _ _ both.1)
     where
       by : (b : Bool) → not b ≡ false → b ≡ true
       by true e = refl
       by false e = absurd (let both : true ≡ false = e in cc)
 
-  pub differs : (home_at was p ≡ home_at now p → lease_at was p ≡ lease_at now p → ⊥) → is_changed was now p ≡ true
+  pub differs : (own_home was p ≡ own_home now p → own_lease was p ≡ own_lease now p → ⊥) → is_changed was now p ≡ true
   differs apart = elim (cases_Bool (is_changed was now p)) [
     | inl hit ↦ hit
     | inr miss ↦ absurd (let both = stayed miss in apart both.0 both.1)

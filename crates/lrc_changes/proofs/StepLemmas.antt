@@ -30,7 +30,7 @@ use Rattle.lrc_rules.proofs.ToldLemmas.{place-told}
 use Rattle.lrc_rules.proofs.LeaseCountLemmas.{step-follows}
 use Rattle.lrc_rules.proofs.ReportedLemmas.{done-told}
 use Rattle.lrc_rules.proofs.GivenBackLemmas.{abandon-told}
-use Rattle.lrc_changes.specs.Changes.{lease_at, is_changed, former}
+use Rattle.lrc_changes.specs.Changes.{own_lease, is_changed, former}
 use Rattle.lrc_changes.specs.Touched.{ends, touches}
 use Rattle.lrc_changes.proofs.SameLemmas.{stays}
 use Rattle.lrc_changes.proofs.TouchLemmas.{placed-right, dropped-right, granted-right, let_go-right, moved-right, ticked-right, failed-right}
@@ -90,7 +90,7 @@ module _ (nodes : List NodeInfo) (past : List Entry) (st : State) (session : Ses
   by (Fail n) Changed told = failed-right nodes st p seated n
   by Tick (Ticked clock ended) told =
       ticked-right st p (λ keep. leases_in-filter keep st.leases p.0 p.1.value seated.one_lease)
-      ∙ ap (λ (c : ℕ). ends c (lease_at st p)) (same-clock _ _ clock ended told)
+      ∙ ap (λ (c : ℕ). ends c (own_lease st p)) (same-clock _ _ clock ended told)
   by c (Granted l k) told = absurd (let never : false ≡ true = gets c (Granted l k) told in cc)
   by c (Ticked clock ended) told = absurd (let never : false ≡ true = gets c (Ticked clock ended) told in cc)
   by c Changed told = stays st (changed_by st c Changed) p refl refl

@@ -33,8 +33,8 @@ use Rattle.lrc_rules.proofs.LookUpLemmas.{is_of, seat_in, no_home, home-only, ho
 use Rattle.lrc_rules.proofs.MovedLemmas.{done-homes}
 use Rattle.lrc_rules.proofs.ToldLemmas.{ArePlaced}
 use Rattle.lrc_rules.proofs.LawLemmas.{chosen-length}
-use Rattle.lrc_changes.specs.Changes.{home_at, lease_at, is_changed}
-use Rattle.lrc_changes.specs.Touched.{sits_on, hangs_over, ends}
+use Rattle.lrc_changes.specs.Changes.{own_home, own_lease, is_changed}
+use Rattle.lrc_changes.specs.Touched.{has_seat_on, hangs_over, ends}
 use Rattle.lrc_changes.proofs.SameLemmas.{stays, differs}
 
 -- what a search finds stays, if it is not bad
@@ -71,7 +71,7 @@ module _ (nodes : List NodeInfo) (st : State) (p : StripeFragment) (seated : Are
   long : length seats ≡ length (fragments code)
   long = chosen-length nodes _ s (fragments code) seats made.chosen_are
 
-  other-home : same_stripe s p.0 ≡ false → home_at next p ≡ home_at st p
+  other-home : same_stripe s p.0 ≡ false → own_home next p ≡ own_home st p
   other-home other =
       ap seat_in (homes-append st.homes added p.0 p.1.value
       ∙ before-none (home_of st.homes p.0 p.1.value) (home_of added p.0 p.1.value)
@@ -81,13 +81,13 @@ module _ (nodes : List NodeInfo) (st : State) (p : StripeFragment) (seated : Are
     none-there : home_of st.homes p.0 p.1.value ≡ None
     none-there = no_home nodes st p.0 p.1.value seated (subst (λ (t : StripeNo). has_stripe st t ≡ false) own made.absent)
 
-    new-home : home_at next p ≡ slice_get seats p.1.value
+    new-home : own_home next p ≡ slice_get seats p.1.value
     new-home =
         ap seat_in (homes-append st.homes added p.0 p.1.value ∙ after-none (home_of st.homes p.0 p.1.value) (home_of added p.0 p.1.value) none-there)
         ∙ ap (λ (t : StripeNo). homes_of added t p.1.value) (sym own)
         ∙ numbered-homes s 0 (fragments code) seats p.1.value p.1.value (fragments-numbered code) long (omega arith)
 
-    no-home : home_at st p ≡ None
+    no-home : own_home st p ≡ None
     no-home = no-seat (home_of st.homes p.0 p.1.value) none-there
 
     own-right : is_changed st next p ≡ nat_lt p.1.value (length (fragments code))
@@ -109,23 +109,23 @@ module _ (nodes : List NodeInfo) (st : State) (p : StripeFragment) (seated : Are
 -- ---- a stripe that is dropped
 
 module _ (st : State) (p : StripeFragment) (s : StripeNo) where
-  left-home : home_at (without_stripe st s) p ≡ (if same_stripe s p.0 then None else home_at st p)
+  left-home : own_home (without_stripe st s) p ≡ (if same_stripe s p.0 then None else own_home st p)
   left-home = homes-without st s p.0 p.1.value
 
-  left-lease : lease_at (without_stripe st s) p ≡ (if same_stripe s p.0 then None else lease_at st p)
+  left-lease : own_lease (without_stripe st s) p ≡ (if same_stripe s p.0 then None else own_lease st p)
   left-lease = leases_in-less_stripe st.leases s p.0 p.1.value
 
-  pub dropped-right : is_changed st (without_stripe st s) p ≡ (same_stripe s p.0 && (is_some (home_at st p) || is_some (lease_at st p)))
+  pub dropped-right : is_changed st (without_stripe st s) p ≡ (same_stripe s p.0 && (is_some (own_home st p) || is_some (own_lease st p)))
   dropped-right = by (same_stripe s p.0) refl where
-    own-by : same_stripe s p.0 ≡ true → (h : Option Seat) (l : Option LeaseRecord) → home_at st p ≡ h → lease_at st p ≡ l
+    own-by : same_stripe s p.0 ≡ true → (h : Option Seat) (l : Option LeaseRecord) → own_home st p ≡ h → own_lease st p ≡ l
         → is_changed st (without_stripe st s) p ≡ (is_some h || is_some l)
     own-by own None None home lease =
         stays st (without_stripe st s) p (home ∙ sym (left-home ∙ rw own refl)) (lease ∙ sym (left-lease ∙ rw own refl))
     own-by own None (Some l) home lease = differs st (without_stripe st s) p (λ h k. not-both lease (k ∙ left-lease ∙ rw own refl))
     own-by own (Some x) l home lease = differs st (without_stripe st s) p (λ h k. not-both home (h ∙ left-home ∙ rw own refl))
 
-    by : (b : Bool) → same_stripe s p.0 ≡ b → is_changed st (without_stripe st s) p ≡ (b && (is_some (home_at st p) || is_some (lease_at st p)))
-    by true own = own-by own (home_at st p) (lease_at st p) refl refl
+    by : (b : Bool) → same_stripe s p.0 ≡ b → is_changed st (without_stripe st s) p ≡ (b && (is_some (own_home st p) || is_some (own_lease st p)))
+    by true own = own-by own (own_home st p) (own_lease st p) refl refl
     by false other = stays st (without_stripe st s) p (sym (left-home ∙ rw other refl)) (sym (left-lease ∙ rw other refl))
 
 -- ---- a lease that is granted
@@ -140,7 +140,7 @@ module _ (st : State) (p : StripeFragment) where
   pub granted-right : (l : LeaseRecord) → lease_of st l.stripe l.fragment ≡ None
       → is_changed st (with_lease st l) p ≡ (same_stripe l.stripe p.0 && same_fragment l.fragment p.1)
   granted-right l none = by (same_stripe l.stripe p.0 && same_fragment l.fragment p.1) refl where
-    now-leased : lease_at (with_lease st l) p ≡ (if same_stripe l.stripe p.0 && same_fragment l.fragment p.1 then Some l else lease_at st p)
+    now-leased : own_lease (with_lease st l) p ≡ (if same_stripe l.stripe p.0 && same_fragment l.fragment p.1 then Some l else own_lease st p)
     now-leased = ap (λ (t : Leased). t.leases p.0 p.1.value) (leased_of-append st.leases l 0 none)
 
     by : (b : Bool) → (same_stripe l.stripe p.0 && same_fragment l.fragment p.1) ≡ b → is_changed st (with_lease st l) p ≡ b
@@ -152,10 +152,10 @@ module _ (st : State) (p : StripeFragment) where
   -- ---- a lease that ends
 
   module _ (s : StripeNo) (f : Fragment) (l : LeaseRecord) (live : lease_of st s f ≡ Some l) where
-    now-let_go : lease_at (without_lease st s f) p ≡ (if same_stripe s p.0 && same_fragment f p.1 then None else lease_at st p)
+    now-let_go : own_lease (without_lease st s f) p ≡ (if same_stripe s p.0 && same_fragment f p.1 then None else own_lease st p)
     now-let_go = ap (λ (t : Leased). t.leases p.0 p.1.value) (leased_of-less st.leases s f 0)
 
-    was-live : (same_stripe s p.0 && same_fragment f p.1) ≡ true → lease_at st p ≡ Some l
+    was-live : (same_stripe s p.0 && same_fragment f p.1) ≡ true → own_lease st p ≡ Some l
     was-live hit = at-place (λ (r : StripeNo) (g : Fragment). lease_of st r g ≡ Some l) s f hit live
 
     pub let_go-right : is_changed st (without_lease st s f) p ≡ (same_stripe s p.0 && same_fragment f p.1)
@@ -179,17 +179,17 @@ module _ (st : State) (p : StripeFragment) where
 
 -- ---- leases that end at a clock, and a node that fails
 
-module _ (st : State) (p : StripeFragment) (one : (keep : LeaseRecord → Bool) → lease_of (record st { leases = filter keep st.leases }) p.0 p.1 ≡ option_filter keep (lease_at st p)) where
-  pub ticked-right : is_changed st (ticked st) p ≡ ends (st.clock + 1) (lease_at st p)
-  ticked-right = by (lease_at st p) refl where
+module _ (st : State) (p : StripeFragment) (one : (keep : LeaseRecord → Bool) → lease_of (record st { leases = filter keep st.leases }) p.0 p.1 ≡ option_filter keep (own_lease st p)) where
+  pub ticked-right : is_changed st (ticked st) p ≡ ends (st.clock + 1) (own_lease st p)
+  ticked-right = by (own_lease st p) refl where
     keep : LeaseRecord → Bool
     keep l = not (ends_at (st.clock + 1) l)
 
-    by-end : (l : LeaseRecord) → lease_at st p ≡ Some l → (b : Bool) → ends_at (st.clock + 1) l ≡ b → is_changed st (ticked st) p ≡ b
+    by-end : (l : LeaseRecord) → own_lease st p ≡ Some l → (b : Bool) → ends_at (st.clock + 1) l ≡ b → is_changed st (ticked st) p ≡ b
     by-end l is true hit = differs st (ticked st) p (λ home lease. not-both is (lease ∙ one keep ∙ ap (option_filter keep) is ∙ rw hit refl))
     by-end l is false miss = stays st (ticked st) p refl (sym (one keep ∙ ap (option_filter keep) is ∙ rw miss (sym is)))
 
-    by : (o : Option LeaseRecord) → lease_at st p ≡ o → is_changed st (ticked st) p ≡ ends (st.clock + 1) o
+    by : (o : Option LeaseRecord) → own_lease st p ≡ o → is_changed st (ticked st) p ≡ ends (st.clock + 1) o
     by None is = stays st (ticked st) p refl (sym (one keep ∙ ap (option_filter keep) is ∙ sym is))
     by (Some l) is = by-end l is (ends_at (st.clock + 1) l) refl
 
@@ -197,15 +197,15 @@ module _ (nodes : List NodeInfo) (st : State) (p : StripeFragment) (seated : Are
   abbrev emptied-state : State
   emptied-state = changed_on node.Fail st n
 
-  on-seat : (o : Option Held) → sits_on n (seat_in o) ≡ option_map_or (stands_on n) o false
+  on-seat : (o : Option Held) → has_seat_on n (seat_in o) ≡ option_map_or (stands_on n) o false
   on-seat None = refl
   on-seat (Some h) = refl
 
-  home-stays : sits_on n (home_at st p) ≡ false → home_at emptied-state p ≡ home_at st p
+  home-stays : has_seat_on n (own_home st p) ≡ false → own_home emptied-state p ≡ own_home st p
   home-stays off = ap seat_in (find-stays (is_of p.0 p.1.value) (stands_on n) st.homes (sym (on-seat (home_of st.homes p.0 p.1.value)) ∙ off))
 
   -- no home is left on the node
-  home-off : (o : Option Held) → home_of emptied-state.homes p.0 p.1.value ≡ o → sits_on n (seat_in o) ≡ false
+  home-off : (o : Option Held) → home_of emptied-state.homes p.0 p.1.value ≡ o → has_seat_on n (seat_in o) ≡ false
   home-off None is = refl
   home-off (Some h) is =
       let m = find-member (is_of p.0 p.1.value) emptied-state.homes h is in
@@ -221,13 +221,13 @@ module _ (nodes : List NodeInfo) (st : State) (p : StripeFragment) (seated : Are
   abbrev keep : LeaseRecord → Bool
   keep l = not (hangs_on st n l)
 
-  lease-left : lease_at emptied-state p ≡ option_filter keep (lease_at st p)
+  lease-left : own_lease emptied-state p ≡ option_filter keep (own_lease st p)
   lease-left = leases_in-filter keep st.leases p.0 p.1.value seated.one_lease
 
   abbrev is_own : LeaseRecord → Held → Bool
   is_own l h = is_home_of l.stripe l.fragment h && stands_on n h
 
-  none-own : (l : LeaseRecord) → lease_at st p ≡ Some l → sits_on n (home_at st p) ≡ false → (b : Bool) → list_any (is_own l) st.homes ≡ b → b ≡ false
+  none-own : (l : LeaseRecord) → own_lease st p ≡ Some l → has_seat_on n (own_home st p) ≡ false → (b : Bool) → list_any (is_own l) st.homes ≡ b → b ≡ false
   none-own l is off false e = refl
   none-own l is off true e =
       let m = member-list_any (is_own l) st.homes e in
@@ -240,27 +240,27 @@ module _ (nodes : List NodeInfo) (st : State) (p : StripeFragment) (seated : Are
       let found : home_of st.homes p.0 p.1.value ≡ Some h =
       ap (λ (r : StripeNo). home_of st.homes r p.1.value) (sym stripe) ∙ ap (home_of st.homes h.stripe) (sym fragment)
       ∙ home-only st.homes seated.one_home h m.1 in
-      (let both : true ≡ false = sym parts.1 ∙ sym (ap (λ (o : Option Held). sits_on n (seat_in o)) found) ∙ off in cc)
+      (let both : true ≡ false = sym parts.1 ∙ sym (ap (λ (o : Option Held). has_seat_on n (seat_in o)) found) ∙ off in cc)
 
-  lease-stays : (o : Option LeaseRecord) → lease_at st p ≡ o → sits_on n (home_at st p) ≡ false → hangs_over n o ≡ false
-      → lease_at emptied-state p ≡ lease_at st p
+  lease-stays : (o : Option LeaseRecord) → own_lease st p ≡ o → has_seat_on n (own_home st p) ≡ false → hangs_over n o ≡ false
+      → own_lease emptied-state p ≡ own_lease st p
   lease-stays None is off clear = lease-left ∙ ap (option_filter keep) is ∙ sym is
   lease-stays (Some l) is off clear =
       let own = none-own l is off (list_any (is_own l) st.homes) refl in
       let stays : hangs_on st n l ≡ false = ap₂ (λ (a b : Bool). a || b) clear own in
       lease-left ∙ ap (option_filter keep) is ∙ rw stays (sym is)
 
-  lease-goes : (o : Option LeaseRecord) → lease_at st p ≡ o → hangs_over n o ≡ true → lease_at st p ≡ lease_at emptied-state p → ⊥
+  lease-goes : (o : Option LeaseRecord) → own_lease st p ≡ o → hangs_over n o ≡ true → own_lease st p ≡ own_lease emptied-state p → ⊥
   lease-goes None is hit same = (let both : true ≡ false = sym hit in cc)
   lease-goes (Some l) is hit same =
       let goes : hangs_on st n l ≡ true = ap (λ (a : Bool). a || list_any (is_own l) st.homes) hit in
       not-both is (same ∙ lease-left ∙ ap (option_filter keep) is ∙ rw goes refl)
 
-  pub failed-right : is_changed st emptied-state p ≡ (sits_on n (home_at st p) || hangs_over n (lease_at st p))
-  failed-right = by (sits_on n (home_at st p)) (hangs_over n (lease_at st p)) refl refl where
-    by : (a b : Bool) → sits_on n (home_at st p) ≡ a → hangs_over n (lease_at st p) ≡ b → is_changed st emptied-state p ≡ (a || b)
+  pub failed-right : is_changed st emptied-state p ≡ (has_seat_on n (own_home st p) || hangs_over n (own_lease st p))
+  failed-right = by (has_seat_on n (own_home st p)) (hangs_over n (own_lease st p)) refl refl where
+    by : (a b : Bool) → has_seat_on n (own_home st p) ≡ a → hangs_over n (own_lease st p) ≡ b → is_changed st emptied-state p ≡ (a || b)
     by true b on over =
         differs st emptied-state p (λ home lease.
-        (let both : true ≡ false = sym on ∙ ap (sits_on n) home ∙ home-off (home_of emptied-state.homes p.0 p.1.value) refl in cc))
-    by false true off over = differs st emptied-state p (λ home lease. lease-goes (lease_at st p) refl over lease)
-    by false false off over = stays st emptied-state p (sym (home-stays off)) (sym (lease-stays (lease_at st p) refl off over))
+        (let both : true ≡ false = sym on ∙ ap (has_seat_on n) home ∙ home-off (home_of emptied-state.homes p.0 p.1.value) refl in cc))
+    by false true off over = differs st emptied-state p (λ home lease. lease-goes (own_lease st p) refl over lease)
+    by false false off over = stays st emptied-state p (sym (home-stays off)) (sym (lease-stays (own_lease st p) refl off over))

@@ -1,5 +1,6 @@
 -- What differs between two states, as rows: the fragments whose home or lease is another one.
-use Rattle.std.specs.Prelude.{Bool, true, false, not, ◌&&◌, nat_eq, List, map, filter, replicate, Option, Some, None, is_some}
+use Rattle.std.specs.Prelude.{Bool, true, false, not, ◌&&◌, nat_eq, List, map, filter, replicate}
+use Rattle.std.specs.Prelude.{Option, Some, None, is_some}
 use Rattle.lrc_code.specs.Numbers.{same_stripe, same_fragment, same_node}
 use Rattle.lrc_topology.specs.declared.seat.Seat.{Seat}
 use Rattle.lrc_terms.specs.declared.lease.Lease.{Lease}
@@ -14,12 +15,12 @@ use Rattle.lrc_changes.specs.declared.touch.Former.{Former}
 use Rattle.lrc_changes.specs.declared.change.LrcChange.{LrcChange}
 
 -- the home of a fragment
-abbrev pub home_at : State → StripeFragment → Option Seat
-home_at st p = homes_of st.homes p.0 p.1.value
+abbrev pub own_home : State → StripeFragment → Option Seat
+own_home st p = homes_of st.homes p.0 p.1.value
 
 -- its live lease
-abbrev pub lease_at : State → StripeFragment → Option Lease
-lease_at st p = lease_of st p.0 p.1
+abbrev pub own_lease : State → StripeFragment → Option Lease
+own_lease st p = lease_of st p.0 p.1
 
 -- both are the same slot of the same node
 abbrev pub is_same_seat : Seat → Seat → Bool
@@ -41,9 +42,11 @@ is_same_lease _ _ = false
 
 -- the home or the lease of the fragment is another one, or is in one of the two states alone
 abbrev pub is_changed : State → State → StripeFragment → Bool
-is_changed was now p = not (is_same_home (home_at was p) (home_at now p) && is_same_lease (lease_at was p) (lease_at now p))
+is_changed was now p =
+    not (is_same_home (own_home was p) (own_home now p) && is_same_lease (own_lease was p) (own_lease now p))
 
--- of all fragments of all stripe numbers those whose home or lease is another one, in rising order of stripe and fragment
+-- of all fragments of all stripe numbers those whose home or lease is another one, in rising order of stripe and
+-- fragment
 unfoldable pub changed : State → State → List StripeFragment
 changed was now = filter (is_changed was now) places
 
@@ -51,7 +54,7 @@ changed was now = filter (is_changed was now) places
 
 -- a fragment, as it is in a state
 abbrev pub former : State → StripeFragment → Former
-former st p = record { stripe = p.0; fragment = p.1; home = home_at st p; lease = lease_at st p }
+former st p = record { stripe = p.0; fragment = p.1; home = own_home st p; lease = own_lease st p }
 
 -- the struct of a lease; all is 0 without one
 abbrev pub lease_record : Option Lease → LrcLease
@@ -74,7 +77,7 @@ encoded_change x home lease = record {
 
 -- the row of a fragment that was like this, as it is in a state
 abbrev pub row_now : State → Former → LrcChange
-row_now now x = encoded_change x (home_at now (x.stripe, x.fragment)) (lease_at now (x.stripe, x.fragment))
+row_now now x = encoded_change x (own_home now (x.stripe, x.fragment)) (own_lease now (x.stripe, x.fragment))
 
 -- the rows of what differs between two states
 abbrev pub changes : State → State → List LrcChange

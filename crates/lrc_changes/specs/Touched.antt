@@ -1,6 +1,7 @@
 -- Internal: no public clause reaches these definitions.
 -- Which fragments a command with this reply changes.
-use Rattle.std.specs.Prelude.{ℕ, ◌+◌, ◌*◌, Bool, false, ◌&&◌, ◌||◌, if◌then◌else◌, nat_eq, nat_lt, Option, Some, None, is_some}
+use Rattle.std.specs.Prelude.{ℕ, ◌+◌, ◌*◌, Bool, false, ◌&&◌, ◌||◌, if◌then◌else◌, nat_eq, nat_lt}
+use Rattle.std.specs.Prelude.{Option, Some, None, is_some}
 use Rattle.lrc_code.specs.declared.numbers.StripeNo.{StripeNo}
 use Rattle.lrc_code.specs.declared.numbers.NodeNo.{NodeNo}
 use Rattle.lrc_code.specs.Numbers.{same_stripe, same_fragment, same_node}
@@ -10,7 +11,8 @@ use Rattle.lrc_terms.specs.Leased.{is_target_on, ends_at}
 use Rattle.lrc_rules.specs.declared.command.Command.{Command}
 use Rattle.lrc_rules.specs.declared.command.Command.TheVariants.{Place, Place6, Drop, Done, Abandon, Revoke, Fail}
 use Rattle.lrc_rules.specs.declared.reply.Reply.{Reply}
-use Rattle.lrc_rules.specs.declared.reply.Reply.TheVariants.{Placed, Placed6, Dropped, Granted, Ended, Changed, Ticked, Idle, Refused}
+use Rattle.lrc_rules.specs.declared.reply.Reply.TheVariants.{Placed, Placed6, Dropped, Granted, Idle, Ended, Changed}
+use Rattle.lrc_rules.specs.declared.reply.Reply.TheVariants.{Refused, Ticked}
 use Rattle.lrc_rules.specs.States.{State}
 use Rattle.lrc_walks.specs.WalkRows.{place_at}
 use Rattle.lrc_changes.specs.declared.touch.Former.{Former}
@@ -18,9 +20,9 @@ use Rattle.lrc_changes.specs.Changes.{former}
 
 -- ---- by the reply
 
-abbrev pub is_placed : Command → Former → Bool
-is_placed (Place s) x = same_stripe s x.stripe
-is_placed _ x = false
+abbrev pub is_placed_wide : Command → Former → Bool
+is_placed_wide (Place s) x = same_stripe s x.stripe
+is_placed_wide _ x = false
 
 abbrev pub is_placed_narrow : Command → Former → Bool
 is_placed_narrow (Place6 s) x = same_stripe s x.stripe && nat_lt x.fragment.value 10
@@ -37,9 +39,9 @@ is_let_go (Revoke s f) x = same_stripe s x.stripe && same_fragment f x.fragment
 is_let_go _ x = false
 
 -- the home is on the node
-abbrev pub sits_on : NodeNo → Option Seat → Bool
-sits_on n None = false
-sits_on n (Some seat) = same_node n seat.node
+abbrev pub has_seat_on : NodeNo → Option Seat → Bool
+has_seat_on n None = false
+has_seat_on n (Some seat) = same_node n seat.node
 
 -- the target of the lease is on the node
 abbrev pub hangs_over : NodeNo → Option LeaseRecord → Bool
@@ -47,7 +49,7 @@ hangs_over n None = false
 hangs_over n (Some l) = is_target_on n l
 
 abbrev pub is_emptied : Command → Former → Bool
-is_emptied (Fail n) x = sits_on n x.home || hangs_over n x.lease
+is_emptied (Fail n) x = has_seat_on n x.home || hangs_over n x.lease
 is_emptied _ x = false
 
 -- the lease ends at the clock
@@ -57,7 +59,7 @@ ends clock (Some l) = ends_at clock l
 
 -- a command with this reply changes the fragment
 abbrev pub touches : Command → Reply → Former → Bool
-touches c (Placed seats) x = is_placed c x
+touches c (Placed seats) x = is_placed_wide c x
 touches c (Placed6 seats) x = is_placed_narrow c x
 touches c Dropped x = is_dropped c x
 touches c (Granted l kind) x = same_stripe l.stripe x.stripe && same_fragment l.fragment x.fragment

@@ -6,7 +6,7 @@ ghost use Rattle.lrc_code.specs.declared.fault.Fault.TheVariants as fault;
 ghost use Rattle.lrc_rules.specs.Goodness.{AreSeated};
 ghost use Rattle.lrc_book.specs.Books.{state_of, IsStep, state_after_entry};
 ghost use Rattle.lrc_walks.specs.WalkRows.{AreFirstRows, place_at};
-ghost use Rattle.lrc_changes.specs.Changes.{home_at, former, changed, row_now};
+ghost use Rattle.lrc_changes.specs.Changes.{own_home, former, changed, row_now};
 ghost use Rattle.lrc_changes.specs.Touched.{touched_at};
 
 use crate::touch::{reach, touches};
@@ -23,7 +23,9 @@ use std::alloc::Global;
 /// Only `Fault::OutOfMemory`.
 pub fn changed_by(alloc: Global, book: &Book, entry: &Entry) -> Result<Vec<Former>, Fault>
     requires step { IsStep book.now entry.now }
-    ensures value { IfOk result (λ rows. rows.items ≡ map (former (state_of book.now)) (changed (state_of book.now) (state_after_entry book.now entry.now))) }
+    ensures value { IfOk result (λ rows.
+        rows.items ≡ map (former (state_of book.now))
+        (changed (state_of book.now) (state_after_entry book.now entry.now))) }
     ensures err { IfErr result (λ e. e ≡ fault.OutOfMemory) }
 {
     book.history(); // so that its contract tells that the seats are in order
@@ -41,7 +43,9 @@ fn touched_from(
 ) -> Result<Vec<Former>, Fault>
     requires seated { AreSeated book.now.nodes (state_of book.now) }
     requires end { end ≤ 65536 }
-    ensures value { IfOk result (λ rows. rows.items ≡ filter_map (touched_at (state_of book.now) entry.now.command entry.now.reply) (range_with_len start (end - start))) }
+    ensures value { IfOk result (λ rows.
+        rows.items ≡ filter_map (touched_at (state_of book.now) entry.now.command entry.now.reply)
+        (range_with_len start (end - start))) }
     ensures err { IfErr result (λ e. e ≡ fault.OutOfMemory) }
 {
     let mut rows = Vec::new(alloc);
@@ -83,7 +87,7 @@ fn former(book: &Book, stripe: StripeNo, fragment: Fragment) -> Former
 /// The home of a fragment.
 fn home_of(book: &Book, stripe: StripeNo, fragment: Fragment) -> Option<Seat>
     requires seated { AreSeated book.now.nodes (state_of book.now) }
-    ensures { result ≡ home_at (state_of book.now) (stripe, fragment) }
+    ensures { result ≡ own_home (state_of book.now) (stripe, fragment) }
 {
     book.packed_homes(stripe)?.home(fragment)
 }

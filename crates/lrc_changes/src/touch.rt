@@ -1,7 +1,8 @@
 //! Which fragments an entry changes, by its command and its reply.
 
 ghost use Rattle.std.specs.Prelude.{◌≡◌};
-ghost use Rattle.lrc_changes.specs.Touched.{touches, is_placed, is_placed_narrow, is_dropped, is_let_go, is_emptied, sits_on, hangs_over, ends, reach_of, places_of, reach};
+ghost use Rattle.lrc_changes.specs.Touched.{touches, is_placed_wide, is_placed_narrow, is_dropped, is_let_go};
+ghost use Rattle.lrc_changes.specs.Touched.{is_emptied, has_seat_on, hangs_over, ends, reach_of, places_of, reach};
 
 use lrc_code::{FRAGMENTS, Fragment, NARROW_FRAGMENTS, NodeNo, STRIPES, StripeNo};
 use lrc_rules::{Command, Entry, Lease, Reply, Seat};
@@ -23,7 +24,7 @@ pub(crate) fn touches(entry: &Entry, former: &Former) -> bool
     ensures { result ≡ touches entry.now.command entry.now.reply former.now }
 {
     match entry.reply {
-        Reply::Placed(_) => is_placed(entry.command, former),
+        Reply::Placed(_) => is_placed_wide(entry.command, former),
         Reply::Placed6(_) => is_placed_narrow(entry.command, former),
         Reply::Dropped => is_dropped(entry.command, former),
         Reply::Granted(lease, _) => {
@@ -37,8 +38,8 @@ pub(crate) fn touches(entry: &Entry, former: &Former) -> bool
 }
 
 /// Whether the command places the fragment's stripe as a wide one.
-fn is_placed(command: Command, former: &Former) -> bool
-    ensures { result ≡ is_placed command former.now }
+fn is_placed_wide(command: Command, former: &Former) -> bool
+    ensures { result ≡ is_placed_wide command former.now }
 {
     match command {
         Command::Place(stripe) => stripe == former.stripe,
@@ -96,7 +97,7 @@ fn is_emptied(command: Command, former: &Former) -> bool
 
 /// Whether the home is on the node.
 fn is_on(node: NodeNo, home: Option<Seat>) -> bool
-    ensures { result ≡ sits_on node home }
+    ensures { result ≡ has_seat_on node home }
 {
     match home {
         Some(seat) => node == seat.node,
@@ -124,8 +125,8 @@ fn ends(clock: u32, lease: Option<Lease>) -> bool
     }
 }
 
-/// The places of all fragments that the entry may change: from the first number, and before the second. Each stripe number
-/// has sixteen.
+/// The places of all fragments that the entry may change: from the first number, and before the second. Each stripe
+/// number has sixteen.
 pub(crate) fn reach(entry: &Entry) -> (usize, usize)
     ensures { result ≡ reach entry.now.command entry.now.reply }
 {

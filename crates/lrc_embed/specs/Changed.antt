@@ -15,9 +15,11 @@ state_then b session command = (outcome_in b.nodes (world_of b) session command)
 
 -- the step would change `count` fragments, more than there is room for
 abbrev pub HasNoRoom : BookView → SessionNo → Command → ℕ → ℕ → Type 0
-HasNoRoom b session command room count = (count ≡ length (changes (state_of b) (state_then b session command))) × (room < count)
+HasNoRoom b session command room count =
+    (count ≡ length (changes (state_of b) (state_then b session command))) × (room < count)
 
 -- the same, of the command that C wrote
 abbrev pub IsShortCall : ℕ → LrcCommand → ℕ → ℕ → BookView → Type 0
 IsShortCall number c room count b =
-    (session : SessionNo) × (command : Command) × (session.value ≡ number) × IsCommand c command × HasNoRoom b session command room count
+    (session : SessionNo) × (command : Command) × (session.value ≡ number) × IsCommand c command
+    × HasNoRoom b session command room count

@@ -17,9 +17,9 @@ use lrc_code::SessionNo;
 use lrc_records::{LrcCommand, LrcEntry};
 use std::alloc::Global;
 
-/// Makes one step of the book, and writes its entry, with a row for each fragment whose home or lease is another one after
-/// it, in rising order of stripe and fragment. They fill the first `count` rows. If there are fewer rows, the step is not made,
-/// and nothing is written but the `count` that it needs.
+/// Makes one step of the book, and writes its entry, with a row for each fragment whose home or lease is another one
+/// after it, in rising order of stripe and fragment. They fill the first `count` rows. If there are fewer rows, the
+/// step is not made, and nothing is written but the `count` that it needs.
 #[unsafe(no_mangle)]
 pub extern "C" fn lrc_embed_call_changes(
     alloc: Global,
