@@ -47,6 +47,7 @@ def ways_of(book):
         "session": [lambda n: book.call(n, Command(CommandKind.NEXT)), lambda n: Entry(session=n),
                     lambda n: setattr(entry, "session", n), lambda n: book.peek(n, Command(CommandKind.NEXT)),
                     lambda n: book.peek_entry(n, Command(CommandKind.NEXT)),
+                    lambda n: book.call_changes(n, Command(CommandKind.NEXT)),
                     lambda n: book.calls([(n, Command(CommandKind.NEXT))])],
         "kind": [Command, lambda n: setattr(command, "kind", n), lambda n: fields_of(book.library, n)],
         "stripe": [*made_of(CommandKind.PLACE, "stripe"), book.homes, book.level, book.missing, book.code,
