@@ -6,7 +6,7 @@ from enum import IntEnum
 from operator import index as whole
 
 VERSION, RULES_VERSION, STRIPES, FRAGMENTS, NARROW_FRAGMENTS, SESSIONS, HISTORY_LIMIT = 7, 1, 4096, 16, 10, 8, 1_000_000
-NODES, SLOTS, IMAGE_MOST = 512, 256, 3855418
+NODES, SLOTS, IMAGE_MOST, FEED_LIMIT = 512, 256, 3855418, 1_048_576
 IMAGE_ROOM = 1 << 20  # room for the image of a store of 4,096 stripes, but for a few: to ask how much it needs costs as much as it does
 TABLE_ROOM = 1 << 20  # room for the table of as many stripes, for the same reason
 
@@ -109,6 +109,18 @@ class Checked(ctypes.Structure):
 
 class Handle(ctypes.Structure):
     _fields_ = [("is_open", c_bool), ("at", c_void_p)]
+
+
+class Feed(ctypes.Structure):
+    _fields_ = [("is_open", c_bool), ("at", c_void_p)]
+
+
+class Published(ctypes.Structure):
+    _fields_ = [("book", Handle), ("feed", Feed)]
+
+
+class Viewer(ctypes.Structure):
+    _fields_ = [("book", Handle), ("feed", Feed)]
 
 
 class Command(Checked):
@@ -620,3 +632,64 @@ class Book:
 
     def __exit__(self, *_):
         self.close()
+
+
+class PartOfPair(Book):
+    """A book that stands in a pair, with an end of a feed. What is made of it calls the library for the pair too."""
+
+    def __init__(self, library, pair):  # pylint: disable=super-init-not-called
+        self.library, self.pair, self.handle = library, pair, pair.book
+        self.finalizer = weakref.finalize(self, self.closer(library, pair))
+        self.finalizer.atexit = False
+
+    def of_pair(self, name, *given):
+        """Makes a call that takes the pair, which has to be done."""
+        status = getattr(self.library, f"lrc_embed_{name}")(ctypes.byref(self.pair), *given)
+        if status != Status.DONE:
+            raise Fault(name, status)
+
+
+class PublishedBook(PartOfPair):
+    """The book of another one, which is closed then, with viewers. One thread at a time may use it."""
+
+    def __init__(self, book):
+        pair = Published()
+        book.done("publish", ctypes.byref(pair))
+        super().__init__(book.library, pair)
+
+    @staticmethod
+    def closer(library, pair):
+        handle = Handle()
+
+        def close():
+            library.lrc_embed_unpublish(ctypes.byref(pair), ctypes.byref(handle))
+            library.lrc_embed_close(ctypes.byref(handle))
+        return close
+
+    def call(self, session, command):
+        """Makes a call. Whoever looks at a viewer after it sees it."""
+        reply = Reply()
+        self.of_pair("call_published", c_uint8(within("session", session)), ctypes.byref(command), ctypes.byref(reply))
+        return reply
+
+    def view(self, nodes):
+        """A viewer, over the text of the nodes of the book."""
+        pair = Viewer()
+        self.of_pair("view", *text_of(nodes), ctypes.byref(pair))
+        return ViewerBook(self.library, pair)
+
+
+class ViewerBook(PartOfPair):
+    """A viewer of a published book: a book of its own that follows the other, for looks of any kind. One thread at a time may use
+    it, beside the threads of the published book and of other viewers."""
+
+    @staticmethod
+    def closer(library, pair):
+        return lambda: library.lrc_embed_close_viewer(ctypes.byref(pair))
+
+    def follow(self):
+        """Makes the calls of the published book that it has not made yet. Returns the place: how many entries of the store it
+        follows from; and whether the book is still published."""
+        place, is_published = c_uint64(), c_uint8()
+        self.of_pair("follow", ctypes.byref(place), ctypes.byref(is_published))
+        return place.value, is_published.value == 1

@@ -42,7 +42,7 @@ EMBED, INCLUDE = f"{EXAMPLES}/embed", f"{TOP}/crates/lrc_embed/include"
 CXX = os.environ.get("CXX", "c++")
 STRICT = ["-Wall", "-Wextra", "-Werror"]
 # The version of the header, and a sum of what it declares.
-INTERFACE = "7", "b37e8f384290"
+INTERFACE = "7", "28097b63c32d"
 COUNTED = ["-Wl,--wrap=malloc,--wrap=realloc,--wrap=free"]
 
 
@@ -64,6 +64,7 @@ def left_out(what, why):
 C_TYPES = {"u8": "uint8_t", "u16": "uint16_t", "u32": "uint32_t", "u64": "uint64_t", "usize": "size_t", "bool": "bool",
            "*mut ()": "void *", "*const u8": "const uint8_t *", "*mut u8": "uint8_t *"}
 SIZES = {"u8": 1, "u16": 2, "u32": 4, "u64": 8, "usize": 8, "bool": 1, "*mut ()": 8, "*const u8": 8, "*mut u8": 8}
+OWNED = {"OwnedBook", "OwnedFeed"}  # private structs, whose fields stand in those that have them
 # A slice within a slice crosses as a pointer and a length: structs that the header alone names.
 SLICES = {"LrcBytes": [("at", "*const u8"), ("length", "usize")], "LrcBuffer": [("at", "*mut u8"), ("length", "usize")]}
 SLICES_OF = {"&[&[u8]]": "const lrc_bytes *", "&mut [&mut [u8]]": "lrc_buffer *"}
@@ -100,7 +101,7 @@ def flat(structs, name):
     """The fields of a struct, with those of the one private struct in their place."""
     fields = []
     for field, type_ in structs[name]:
-        fields += flat(structs, type_) if type_ == "OwnedBook" else [(field, type_)]
+        fields += flat(structs, type_) if type_ in OWNED else [(field, type_)]
     return fields
 
 
@@ -270,12 +271,12 @@ def test_header(count, room):
         same = len(found) == len(wanted) and all(it in (other, "void") or it.endswith("_length") for it, other in zip(wanted, found))
         count.check(f"the parameters of {name} are {found} in the header, {wanted} in the crate", same)
     named = set(re.findall(r"^\} (lrc_\w+);", header, re.M))
-    crossing = {snake(name) for name in structs} - {"owned_book"}
+    crossing = {snake(name) for name in structs} - {snake(name) for name in OWNED}
     count.check(f"the structs of the header: {named ^ crossing}", named == crossing)
     if not count.check(f"the types of fields: {unknown_types(structs)}", not unknown_types(structs)):
         return
     asserted = re.findall(r"^LRC_EMBED_(?:STRUCT|FIELD)\(.*\)$", header, re.M)
-    wanted = [line for name in structs if name != "OwnedBook" for line in own_asserts(structs, name)]
+    wanted = [line for name in structs if name not in OWNED for line in own_asserts(structs, name)]
     found = set(asserted) ^ set(wanted)
     count.check(f"the layouts that the header tells: {found}", not found and len(asserted) == len(wanted))
     enums = header_enums(header)
@@ -283,7 +284,7 @@ def test_header(count, room):
         found = set(enums.get(name, ())) ^ set(constants.get(name, ()))
         count.check(f"the constants of {name}: {found}", not found and len(constants[name]) > 1)
     lines = ["#include \"lrc_embed.h\"", *exports.values()]
-    for name in sorted(set(structs) - {"OwnedBook"}):
+    for name in sorted(set(structs) - OWNED):
         lines += struct_asserts(structs, name)
     for values in constants.values():
         lines += [f"_Static_assert({name} == {value}, \"{name}\");" for name, value in values.items()]
@@ -294,7 +295,7 @@ def test_header(count, room):
     write(f"{room}/header.c", "\n".join([*lines, ""]))
     count.run("the header beside the crates", CC, "-std=c11", *STRICT, "-I", INCLUDE, "-c", f"{room}/header.c", "-o",
               f"{room}/header.o")
-    print(f"compared with the crates: {len(structs) - 1} structs, {len(exports)} functions, "
+    print(f"compared with the crates: {len(set(structs) - OWNED)} structs, {len(exports)} functions, "
           f"{len(limits()) + sum(map(len, constants.values()))} constants")
     test_module(count, structs, constants)
     test_compilers(count, room)
@@ -321,7 +322,7 @@ def test_compilers(count, room):
 
 def test_module(count, structs, constants):
     """The Python module's structs and constants are those of the crates."""
-    for name in sorted(set(structs) - {"OwnedBook"}):
+    for name in sorted(set(structs) - OWNED):
         struct = getattr(lrc_embed, name.removeprefix("Lrc"))
         found = [(field, place, size) for field, _, place, size in fields_of(structs, name)]
         own = [(field, getattr(struct, field).offset, getattr(struct, field).size) for field, _ in struct._fields_]

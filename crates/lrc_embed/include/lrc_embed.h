@@ -61,6 +61,8 @@ extern "C" {
 #define LRC_SLOTS 256
 // The most entries of a history.
 #define LRC_HISTORY_LIMIT 1000000
+// The most calls of a published book, until it is published again.
+#define LRC_FEED_LIMIT 1048576
 // The bytes of the longest image, with each line at its longest, and as many as there can be. No image has more.
 #define LRC_IMAGE_MOST 3855418
 
@@ -70,13 +72,14 @@ enum lrc_status {
     LRC_IS_OPEN = 2,       // the handle to be opened is open
     LRC_OUT_OF_RANGE = 3,  // a session, a kind of command, a stripe, a fragment, a code or an outage is out of its range
     LRC_UNKNOWN = 4,       // there is no such stripe, lease, node, entry or name, or nothing of what is asked for
-    LRC_FULL = 5,          // the history has LRC_HISTORY_LIMIT entries; of lrc_embed_forget and lrc_embed_image: a number is
-                           // at its end
+    LRC_FULL = 5,          // the history has LRC_HISTORY_LIMIT entries, or a feed LRC_FEED_LIMIT calls; of lrc_embed_forget and
+                           // lrc_embed_image: a number is at its end
     LRC_OUT_OF_MEMORY = 6, // memory was refused, and the history is as it was: the call may be repeated (but a replay
                            // has closed the handle)
     LRC_SHORT = 7,         // the buffer has no room for all rows, or for the whole text
-    LRC_DIFFERENT = 8,     // lrc_embed_replay: a call has another reply than its entry
-    LRC_MOVED = 9,         // lrc_embed_call_at: the store has made more or fewer entries than expected
+    LRC_DIFFERENT = 8,     // lrc_embed_replay: a call has another reply than its entry; of lrc_embed_view: other nodes
+    LRC_MOVED = 9,         // lrc_embed_call_at: the store has made more or fewer entries than expected; of a published book or a
+                           // viewer: its book has made calls on its own
     LRC_FORGOTTEN = 10,    // lrc_embed_entries: the place is before the history, so what stands there is forgotten
     LRC_UNDETERMINED = 11, // a recipe: what is not missing does not determine the fragment
     LRC_MISCOUNTED = 12,   // lrc_embed_encode, lrc_embed_rebuild: the buffers are not as many as the code's fragments
@@ -136,6 +139,32 @@ typedef struct {
 #define LRC_CLOSED (lrc_handle{})
 #else
 #define LRC_CLOSED ((lrc_handle){0})
+#endif
+
+// A published book and a viewer of it: a book, and an end of the feed between them. All zeros is a closed one. A program may pass
+// `book` to looks, walks, peeks, forecasts and texts, and to lrc_embed_forget and lrc_embed_image; to no other call, but that a
+// call made on it by mistake is told later, by LRC_MOVED. It reads no field of `feed`.
+typedef struct {
+    bool is_open;
+    void *at;
+} lrc_feed;
+
+typedef struct {
+    lrc_handle book;
+    lrc_feed feed;
+} lrc_published;
+
+typedef struct {
+    lrc_handle book;
+    lrc_feed feed;
+} lrc_viewer;
+
+#ifdef __cplusplus
+#define LRC_NOT_PUBLISHED (lrc_published{})
+#define LRC_NO_VIEWER (lrc_viewer{})
+#else
+#define LRC_NOT_PUBLISHED ((lrc_published){{0}, {0}})
+#define LRC_NO_VIEWER ((lrc_viewer){{0}, {0}})
 #endif
 
 // After each kind: the fields of lrc_command that it uses. The others may be anything, and are 0 in the entry of the history.
@@ -534,6 +563,15 @@ LRC_EMBED_FIELD(lrc_change, lease_after, 40)
 LRC_EMBED_STRUCT(lrc_bytes, 16, 8)
 LRC_EMBED_FIELD(lrc_bytes, at, 0)
 LRC_EMBED_FIELD(lrc_bytes, length, 8)
+LRC_EMBED_STRUCT(lrc_feed, 16, 8)
+LRC_EMBED_FIELD(lrc_feed, is_open, 0)
+LRC_EMBED_FIELD(lrc_feed, at, 8)
+LRC_EMBED_STRUCT(lrc_published, 32, 8)
+LRC_EMBED_FIELD(lrc_published, book, 0)
+LRC_EMBED_FIELD(lrc_published, feed, 16)
+LRC_EMBED_STRUCT(lrc_viewer, 32, 8)
+LRC_EMBED_FIELD(lrc_viewer, book, 0)
+LRC_EMBED_FIELD(lrc_viewer, feed, 16)
 LRC_EMBED_STRUCT(lrc_buffer, 16, 8)
 LRC_EMBED_FIELD(lrc_buffer, at, 0)
 LRC_EMBED_FIELD(lrc_buffer, length, 8)
@@ -718,6 +756,32 @@ uint32_t lrc_embed_command_fields(uint8_t kind, uint8_t *fields, size_t room, si
 uint32_t lrc_embed_line_words(uint32_t cause, uint8_t *text, size_t room, size_t *length);
 uint32_t lrc_embed_cause_words(uint32_t cause, uint8_t *text, size_t room, size_t *length);
 uint32_t lrc_embed_nodes_words(uint32_t status, uint8_t *text, size_t room, size_t *length);
+
+// Looks beside calls. A published book writes each call to a feed. A viewer has a book of its own, which begins in the image of
+// the published one and makes the calls of the feed as it is told to. No look of a viewer takes a lock, no call waits for a
+// viewer, and there may be any number of viewers. Published book and viewers may be on different threads at the same time; each
+// of them is used by one thread at a time. They may be closed in any order.
+//
+// Publishes the book of an open handle, which is closed then. DONE; IS_OPEN, if one of the two in `published` is open; IS_CLOSED;
+// OUT_OF_MEMORY; or FULL, if the store has made more than 9,223,372,036,854,775,808 entries. With another status than DONE nothing
+// changes.
+uint32_t lrc_embed_publish(lrc_handle *handle, lrc_published *published);
+// Takes the book back into a closed handle. Its viewers keep their books, and are told so. DONE, IS_OPEN, IS_CLOSED.
+uint32_t lrc_embed_unpublish(lrc_published *published, lrc_handle *handle);
+// Makes one command of a published book, as lrc_embed_call does. The call is in the feed before this returns, so each viewer that
+// follows after that makes it too. Also MOVED; and FULL too if the feed is: then take the book back and publish it again.
+uint32_t lrc_embed_call_published(lrc_published *published, uint8_t session, const lrc_command *command, lrc_reply *reply);
+// Makes a viewer of a published book: `nodes` is the text that the book was opened with, or one of the same nodes in the same
+// order. The published book stays as it is, and makes no call meanwhile. DONE; IS_OPEN, of the viewer; IS_CLOSED and MOVED, of the
+// published book; OUT_OF_MEMORY; DIFFERENT, if the text is refused or its nodes are others; or FULL, as lrc_embed_forget.
+uint32_t lrc_embed_view(lrc_published *published, const uint8_t *nodes, size_t length, lrc_viewer *viewer);
+// Makes the calls of the published book that the viewer has not made yet, on the viewer's book. Writes the place, how many entries
+// of the store its book follows from, and whether the book is still published, 0 or 1: if not, the viewer has all of its calls. A
+// viewer never goes back. DONE, IS_CLOSED or MOVED; FULL, if the history of its book is, or OUT_OF_MEMORY: then it has made the
+// calls before, and goes on there. No memory is requested if there is no call to make.
+uint32_t lrc_embed_follow(lrc_viewer *viewer, uint64_t *place, uint8_t *is_published);
+// Closes a viewer and frees its book. A closed one stays closed. Always DONE.
+uint32_t lrc_embed_close_viewer(lrc_viewer *viewer);
 
 // The bytes of a stripe. These functions take no handle, and no memory is requested: any threads may call them at once.
 // docs/CODING.md says how a worker uses them.

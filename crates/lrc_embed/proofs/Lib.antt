@@ -6,7 +6,11 @@ pub mod LookLemmas
 pub mod OfLemmas
 pub mod RecipeLemmas
 pub mod ReplayLemmas
+pub mod FeedRows
 pub mod Rows
+pub mod SameNodes
 pub mod Values
 pub mod WalkLemmas
 pub mod PrintedLemmas
+pub mod PublishedLemmas
+pub mod ViewLemmas

@@ -10,6 +10,7 @@ pub use Rattle.lrc_text.specs.Tables
 pub use Rattle.lrc_text.specs.Texts
 pub use Rattle.lrc_show.specs.Shown as ShownTables
 pub use Rattle.lrc_refusals.specs.Refusals
+pub use Rattle.lrc_feed.specs.Feeds
 pub use Rattle.lrc_openings.specs.Begun
 pub use Rattle.lrc_openings.specs.ImageTexts
 pub use Rattle.lrc_forecast.specs.Forecasts
@@ -28,6 +29,7 @@ pub mod Batches
 pub mod Walks
 pub mod Names
 pub mod Printed
+pub mod Published
 pub mod Forms
 pub mod Replays
 pub mod Recipes

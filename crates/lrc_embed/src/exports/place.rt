@@ -71,7 +71,7 @@ fn step_at(
 }
 
 /// Whether the store has made `place` entries so far. Nothing is added here, so no sum can be too large.
-fn is_at(book: &Book, place: u64) -> bool
+pub(super) fn is_at(book: &Book, place: u64) -> bool
     ensures { (result ≡ true) ↔ (entry_count book.now ≡ place) }
 {
     let before = book.before();

@@ -42,6 +42,9 @@ pub const LRC_SLOTS: usize = 256;
 /// The most entries of a history.
 pub const LRC_HISTORY_LIMIT: usize = 1000000;
 
+/// The most calls of a published book, until it is published again.
+pub const LRC_FEED_LIMIT: usize = 1048576;
+
 /// The bytes of the longest image, with each line at its longest, and as many as there can be. No image has more.
 pub const LRC_IMAGE_MOST: usize = 3855418;
 
@@ -55,15 +58,17 @@ pub const LRC_IS_OPEN: u32 = 2;
 pub const LRC_OUT_OF_RANGE: u32 = 3;
 /// there is no such stripe, lease, node, entry or name, or nothing of what is asked for
 pub const LRC_UNKNOWN: u32 = 4;
-/// the history has LRC_HISTORY_LIMIT entries; of lrc_embed_forget and lrc_embed_image: a number is at its end
+/// the history has LRC_HISTORY_LIMIT entries, or a feed LRC_FEED_LIMIT calls; of lrc_embed_forget and lrc_embed_image: a number is
+/// at its end
 pub const LRC_FULL: u32 = 5;
 /// memory was refused, and the history is as it was: the call may be repeated (but a replay has closed the handle)
 pub const LRC_OUT_OF_MEMORY: u32 = 6;
 /// the buffer has no room for all rows, or for the whole text
 pub const LRC_SHORT: u32 = 7;
-/// lrc_embed_replay: a call has another reply than its entry
+/// lrc_embed_replay: a call has another reply than its entry; of lrc_embed_view: other nodes
 pub const LRC_DIFFERENT: u32 = 8;
-/// lrc_embed_call_at: the store has made more or fewer entries than expected
+/// lrc_embed_call_at: the store has made more or fewer entries than expected; of a published book or a viewer: its book has made
+/// calls on its own
 pub const LRC_MOVED: u32 = 9;
 /// lrc_embed_entries: the place is before the history, so what stands there is forgotten
 pub const LRC_FORGOTTEN: u32 = 10;
@@ -294,6 +299,30 @@ pub const LRC_LOSE: u8 = 2;
 pub struct lrc_handle {
     pub is_open: bool,
     pub at: *mut c_void,
+}
+
+/// A published book and a viewer of it: a book, and an end of the feed between them. All zeros is a closed one. A program may pass
+/// `book` to looks, walks, peeks, forecasts and texts, and to lrc_embed_forget and lrc_embed_image; to no other call, but that a
+/// call made on it by mistake is told later, by LRC_MOVED. It reads no field of `feed`.
+#[repr(C)]
+#[derive(Debug)]
+pub struct lrc_feed {
+    pub is_open: bool,
+    pub at: *mut c_void,
+}
+
+#[repr(C)]
+#[derive(Debug)]
+pub struct lrc_published {
+    pub book: lrc_handle,
+    pub feed: lrc_feed,
+}
+
+#[repr(C)]
+#[derive(Debug)]
+pub struct lrc_viewer {
+    pub book: lrc_handle,
+    pub feed: lrc_feed,
 }
 
 #[repr(C)]
@@ -650,6 +679,15 @@ const _: () = {
     assert!(size_of::<lrc_bytes>() == 16 && align_of::<lrc_bytes>() == 8);
     assert!(offset_of!(lrc_bytes, at) == 0);
     assert!(offset_of!(lrc_bytes, length) == 8);
+    assert!(size_of::<lrc_feed>() == 16 && align_of::<lrc_feed>() == 8);
+    assert!(offset_of!(lrc_feed, is_open) == 0);
+    assert!(offset_of!(lrc_feed, at) == 8);
+    assert!(size_of::<lrc_published>() == 32 && align_of::<lrc_published>() == 8);
+    assert!(offset_of!(lrc_published, book) == 0);
+    assert!(offset_of!(lrc_published, feed) == 16);
+    assert!(size_of::<lrc_viewer>() == 32 && align_of::<lrc_viewer>() == 8);
+    assert!(offset_of!(lrc_viewer, book) == 0);
+    assert!(offset_of!(lrc_viewer, feed) == 16);
     assert!(size_of::<lrc_buffer>() == 16 && align_of::<lrc_buffer>() == 8);
     assert!(offset_of!(lrc_buffer, at) == 0);
     assert!(offset_of!(lrc_buffer, length) == 8);
@@ -898,6 +936,36 @@ extern "C" {
     /// The words of lrcman for a refusal, in the same way, at most 80 bytes: for an lrc_line_cause; for an lrc_cause; and for a
     /// status from SYNTAX to TOO_MANY.
     pub fn lrc_embed_nodes_words(status: u32, text: *mut u8, room: usize, length: *mut usize) -> u32;
+    /// Looks beside calls. A published book writes each call to a feed. A viewer has a book of its own, which begins in the image
+    /// of the published one and makes the calls of the feed as it is told to. No look of a viewer takes a lock, no call waits for
+    /// a viewer, and there may be any number of viewers. Published book and viewers may be on different threads at the same time;
+    /// each of them is used by one thread at a time. They may be closed in any order.  Publishes the book of an open handle, which
+    /// is closed then. DONE; IS_OPEN, if one of the two in `published` is open; IS_CLOSED; OUT_OF_MEMORY; or FULL, if the store
+    /// has made more than 9,223,372,036,854,775,808 entries. With another status than DONE nothing changes.
+    pub fn lrc_embed_publish(handle: *mut lrc_handle, published: *mut lrc_published) -> u32;
+    /// Takes the book back into a closed handle. Its viewers keep their books, and are told so. DONE, IS_OPEN, IS_CLOSED.
+    pub fn lrc_embed_unpublish(published: *mut lrc_published, handle: *mut lrc_handle) -> u32;
+    /// Makes one command of a published book, as lrc_embed_call does. The call is in the feed before this returns, so each viewer
+    /// that follows after that makes it too. Also MOVED; and FULL too if the feed is: then take the book back and publish it
+    /// again.
+    pub fn lrc_embed_call_published(
+        published: *mut lrc_published,
+        session: u8,
+        command: *const lrc_command,
+        reply: *mut lrc_reply,
+    ) -> u32;
+    /// Makes a viewer of a published book: `nodes` is the text that the book was opened with, or one of the same nodes in the same
+    /// order. The published book stays as it is, and makes no call meanwhile. DONE; IS_OPEN, of the viewer; IS_CLOSED and MOVED,
+    /// of the published book; OUT_OF_MEMORY; DIFFERENT, if the text is refused or its nodes are others; or FULL, as
+    /// lrc_embed_forget.
+    pub fn lrc_embed_view(published: *mut lrc_published, nodes: *const u8, length: usize, viewer: *mut lrc_viewer) -> u32;
+    /// Makes the calls of the published book that the viewer has not made yet, on the viewer's book. Writes the place, how many
+    /// entries of the store its book follows from, and whether the book is still published, 0 or 1: if not, the viewer has all of
+    /// its calls. A viewer never goes back. DONE, IS_CLOSED or MOVED; FULL, if the history of its book is, or OUT_OF_MEMORY: then
+    /// it has made the calls before, and goes on there. No memory is requested if there is no call to make.
+    pub fn lrc_embed_follow(viewer: *mut lrc_viewer, place: *mut u64, is_published: *mut u8) -> u32;
+    /// Closes a viewer and frees its book. A closed one stays closed. Always DONE.
+    pub fn lrc_embed_close_viewer(viewer: *mut lrc_viewer) -> u32;
     /// The bytes of a stripe. These functions take no handle, and no memory is requested: any threads may call them at once.
     /// docs/CODING.md says how a worker uses them. The recipe of a fragment of a stripe of a code, where some are missing;
     /// fragment f is bit f of `missing`. A fragment whose bit is not set is copied. Bits for which the code has no fragment mean

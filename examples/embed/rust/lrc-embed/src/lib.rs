@@ -15,12 +15,14 @@
 //! ```
 mod bytes;
 mod command;
+mod views;
 
 use std::cell::UnsafeCell;
 use std::fmt::{self, Display, Formatter};
 
 pub use bytes::{encode, matrix, rebuild, recipe_of};
 pub use command::Command;
+pub use views::{Published, Viewer};
 pub use lrc_embed_sys as sys;
 pub use sys::{
     lrc_entry as Entry, lrc_fragment as Fragment, lrc_home as Home, lrc_lease as Lease, lrc_level as Level, lrc_mode as Mode,
@@ -115,6 +117,7 @@ pub enum Outage {
 
 /// A book. It is closed when it is dropped.
 #[derive(Debug)]
+#[repr(transparent)] // (a published book begins with it, as in C)
 pub struct Book {
     handle: UnsafeCell<sys::lrc_handle>, // (looks take it as C does, and change nothing)
 }

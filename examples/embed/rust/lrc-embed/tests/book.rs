@@ -1,6 +1,6 @@
 //! Each call of a book, with what docs/RULES.md and the examples say of it. Nodes 0 to 19 have four slots each, a fault domain of
 //! their own, and upgrade domains 0 to 9 in turn, as in `examples/place_one_stripe.bundle`.
-use lrc_embed::{matrix, recipe_of, rules_version, sys, Book, Command, Entry, Fault, Outage};
+use lrc_embed::{matrix, recipe_of, rules_version, sys, Book, Command, Entry, Fault, Outage, Published};
 
 fn nodes() -> String {
     let node = |number: u16| format!("[[node]]\nnumber = {number}\nfault = {number}\nupgrade = {}\nslots = 4\n", number % 10);
@@ -221,4 +221,26 @@ fn threads() {
         book
     });
     assert_eq!(book.join().unwrap().missing(1).unwrap(), Some(0x0008));
+}
+
+#[test]
+fn viewers_follow_a_published_book() {
+    let mut published = Published::new(book(&FAILED)).unwrap();
+    let mut viewer = published.view(&nodes()).unwrap();
+    assert_eq!(fault(published.view("node = [")), (sys::LRC_DIFFERENT, 0, 0));
+    assert_eq!(viewer.follow().unwrap(), (2, true));
+    assert_eq!(viewer.level(1).unwrap(), published.level(1).unwrap());
+    assert_eq!(published.call(1, Command::Place { stripe: 2 }).unwrap().kind, sys::LRC_PLACED);
+    assert_eq!(viewer.level(2).unwrap(), None);
+    assert_eq!(viewer.follow().unwrap(), (3, true));
+    assert_eq!(viewer.level(2).unwrap().unwrap().kind, sys::LRC_WHOLE);
+    viewer.forget().unwrap();
+    published.forget().unwrap();
+    let other = std::thread::spawn(move || (viewer.follow().unwrap(), viewer));
+    let (at, mut viewer) = other.join().unwrap();
+    assert_eq!(at, (3, true));
+    let mut taken = published.into_book().unwrap();
+    assert_eq!(taken.call(1, Command::Drop { stripe: 2 }).unwrap().kind, sys::LRC_DROPPED);
+    assert_eq!(viewer.follow().unwrap(), (3, false));
+    assert_eq!(viewer.level(2).unwrap().unwrap().kind, sys::LRC_WHOLE);
 }
