@@ -13,6 +13,7 @@ from statistics import median
 from tests.harness import loaded, read
 from tests.library.library import command_of, lrc_embed
 from tests.model import draws, rules
+from tests.stores.store_postgres import pq
 from tests.stores.store_requests import (NODES, STORES, TOPOLOGY, Requests, Running, check_other_version, check_readme,
                                          next_version, pause)
 
@@ -328,6 +329,19 @@ def test_images(count, cluster):
     cluster.end(cluster.replica(), "record 31 is missing or damaged")
 
 
+def test_commit(count, cluster):
+    """A command whose commit fails, after the rows that it returned, is not done: nobody may be told of these."""
+    connection, insert = cluster.connection, "INSERT INTO late VALUES (1) RETURNING number"
+    connection.rows("CREATE TABLE late (number int8 UNIQUE DEFERRABLE INITIALLY DEFERRED)")
+    count.check("standby: a commit", connection.rows(insert) == [(1,)])
+    try:
+        told = connection.rows(insert)
+    except pq().Error as error:
+        told = error.state
+    count.check(f"standby: a commit that is refused: {told}", told == "23505")
+    count.check("standby: what was committed", connection.rows("SELECT number FROM late") == [(1,)])
+
+
 def test_readme(count, cluster):
     """The lines of its README, over the nodes of examples/stores."""
     cluster.connection.rows("UPDATE lead SET nodes = $1", read(f"{STORES}/nodes.toml").decode())
@@ -343,6 +357,7 @@ def test(count, folder, room, is_long, server):
     test_append_under_way(count, Cluster(count, server, library, room, "under_way"))
     test_looks(count, Cluster(count, server, library, room, "looks"), requests)
     test_lost(count, Cluster(count, server, library, room, "lost"))
+    test_commit(count, Cluster(count, server, library, room, "commit"))
     test_readme(count, Cluster(count, server, library, room, "readme"))
     test_images(count, Cluster(count, server, library, room, "images"))
     test_silent(count, Cluster(count, server, library, room, "silent"), server, room)

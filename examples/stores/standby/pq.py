@@ -76,18 +76,27 @@ class Connection:
         given = (c_uint * count)(*types), (c_char_p * count)(*values), lengths, formats
         if not library.PQsendQueryParams(self.at, command.encode(), count, *given, 1):
             raise Error(library.PQerrorMessage(self.at).decode())
-        self.wait()
-        result = library.PQgetResult(self.at)
-        self.wait()
-        library.PQgetResult(self.at)  # (the end of this command)
+        results = []
         try:
-            if library.PQresultStatus(result) not in (COMMAND_OK, TUPLES_OK):
-                state = library.PQresultErrorField(result, ord("C"))
-                raise Error(library.PQresultErrorMessage(result).decode(), state and state.decode())
+            self.read(results)
+            for result in results:
+                if library.PQresultStatus(result) not in (COMMAND_OK, TUPLES_OK):
+                    state = library.PQresultErrorField(result, ord("C"))
+                    raise Error(library.PQresultErrorMessage(result).decode(), state and state.decode())
+            result = results[0]
             return [tuple(self.cell(result, row, column) for column in range(library.PQnfields(result)))
                     for row in range(library.PQntuples(result))]
         finally:
-            library.PQclear(result)
+            for result in results:
+                library.PQclear(result)
+
+    def read(self, results):
+        """Reads the rows of a command, and what comes after them: PostgreSQL sends rows before it commits. If the commit fails, or
+        the connection is ended before it, an error comes after the rows."""
+        self.wait()
+        while result := library.PQgetResult(self.at):
+            results.append(result)
+            self.wait()
 
     def wait(self):
         """Returns once the answer is there."""
