@@ -25,7 +25,7 @@ pub use command::Command;
 pub use views::{Published, Viewer};
 pub use lrc_embed_sys as sys;
 pub use sys::{
-    lrc_entry as Entry, lrc_fragment as Fragment, lrc_home as Home, lrc_lease as Lease, lrc_level as Level, lrc_mode as Mode,
+    lrc_change as Change, lrc_entry as Entry, lrc_fragment as Fragment, lrc_home as Home, lrc_lease as Lease, lrc_level as Level, lrc_mode as Mode,
     lrc_node as Node, lrc_outlook as Outlook, lrc_recipe as Recipe, lrc_repair_plan as RepairPlan, lrc_reply as Reply,
     lrc_risk as Risk, lrc_seat as Seat, lrc_stripe as Stripe,
 };
@@ -159,6 +159,22 @@ impl Book {
     pub fn call(&mut self, session: u8, command: Command) -> Result<Reply, Fault> {
         let mut reply = Reply::default();
         done(unsafe { sys::lrc_embed_call(self.handle.get(), session, &command.into(), &mut reply) }).map(|()| reply)
+    }
+
+    /// Makes a command, and returns its entry and a row for each fragment whose home or live lease it changed.
+    pub fn call_changes(&mut self, session: u8, command: Command) -> Result<(Entry, Vec<Change>), Fault> {
+        let (mut entry, mut count) = (Entry::default(), sys::LRC_FRAGMENTS);
+        loop {
+            let mut rows = vec![Change::default(); count];
+            let (book, at) = (self.handle.get(), rows.as_mut_ptr());
+            let status = unsafe {
+                sys::lrc_embed_call_changes(book, session, &command.into(), &mut entry, at, rows.len(), &mut count)
+            };
+            if status != sys::LRC_SHORT {
+                rows.truncate(count);
+                return done(status).map(|()| (entry, rows));
+            } // (else nothing was made, and the count is that of the rows it needs)
+        }
     }
 
     /// Makes the calls of the sessions and commands of these entries, one after the other, and writes each entry there. Returns how

@@ -224,6 +224,22 @@ fn threads() {
 }
 
 #[test]
+fn calls_say_what_they_change() {
+    let mut book = book(&[Command::Place { stripe: 1 }]);
+    let before = book.homes(1).unwrap().unwrap()[3];
+    let (entry, rows) = book.call_changes(1, Command::Fail { node: 3 }).unwrap();
+    assert_eq!((entry.reply.kind, rows.len()), (sys::LRC_CHANGED, 1));
+    let (row, after) = (rows[0], book.homes(1).unwrap().unwrap()[3]);
+    assert_eq!((row.stripe, row.fragment, row.home_before, row.home_after), (1, 3, before, after));
+    assert_eq!((row.was_leased, row.is_leased), (0, 0));
+    let (entry, rows) = book.call_changes(2, Command::Next).unwrap();
+    assert_eq!((rows.len(), rows[0].was_leased, rows[0].is_leased), (1, 0, 1));
+    assert_eq!((rows[0].lease_after.epoch, rows[0].lease_after.target), (1, entry.reply.lease.target));
+    assert_eq!(book.call_changes(2, Command::Up { node: 3 }).unwrap().1.len(), 0); // (a refusal)
+    assert_eq!((fault(book.call_changes(9, Command::Next)).0, book.count().unwrap()), (sys::LRC_OUT_OF_RANGE, 4));
+}
+
+#[test]
 fn viewers_follow_a_published_book() {
     let mut published = Published::new(book(&FAILED)).unwrap();
     let mut viewer = published.view(&nodes()).unwrap();
