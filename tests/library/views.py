@@ -9,6 +9,7 @@ Usage: tests/library/views [--long] [FOLDER], where FOLDER has what examples/emb
   look while another one calls, each with a viewer of its own: each look shows what the book showed at its place, no place is less
   than the one before, and the last look is at the end. This is run plain and with the thread, the address and the
   undefined-behaviour sanitizers. They see the program, and of the library what it allocates.
+- `bench/views` ends well.
 
 With --long these are 5,000 calls, and 100 times as many beside the lookers. The last line is 'N passed, M failed'."""
 import ctypes
@@ -143,6 +144,8 @@ def main(words):
         library = ctypes.CDLL(os.path.join(os.path.abspath(folder), "liblrc_embed.so"))
         test_model(count, library, 5000 if is_long else 600)
         test_program(count, os.path.abspath(folder), room, 500_000 if is_long else 5000)
+        table = count.run("bench/views", sys.executable, f"{TOP}/bench/views", "--quick", folder) or ""
+        count.check(f"bench/views: {table}", [line.split(" ")[1] for line in table.splitlines()[2:]] == ["0", "1", "2"])
     return count.report()
 
 

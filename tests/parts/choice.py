@@ -16,7 +16,7 @@ from tests.parts import parts
 EACH = "house choice lists"  # each change runs these
 QUICK = "compare sweep pictures replay show recipes takeover balance"  # parts over the program that have a quick form
 FULL = "sweep replay show limits packages bench budget"  # those over the program that a proved one is wanted for
-LIBRARY = "limits embed bytes beside stores service cluster packages"
+LIBRARY = "limits embed views bytes beside stores service cluster packages"
 ROWS = [
     # Pages.
     ("README.md", "compare", ""),
@@ -29,8 +29,8 @@ ROWS = [
     # Tests, and what they import.
     ("tests/program/recipes", "recipes", ""),
     ("tests/program/show.py", "show", ""),
-    ("tests/model/rules.py", "sweep growth pictures replay show recipes takeover balance compare limits embed bytes beside stores service cluster packages bench budget edits believe tried", ""),
-    ("tests/model/draws.py", "replay show pictures beside stores bench budget", ""),
+    ("tests/model/rules.py", "sweep growth pictures replay show recipes takeover balance compare limits embed views bytes beside stores service cluster packages bench budget edits believe tried", ""),
+    ("tests/model/draws.py", "replay show pictures views beside stores bench budget", ""),
     ("tests/program/calls.c", "sweep growth", ""),
     ("tests/library/restarts.py", "beside", ""),
     ("tests/stores/store_sqlite.py", "stores", ""),
@@ -43,7 +43,7 @@ ROWS = [
     ("run-tests", "", ""),
     # Examples.
     ("examples/rules/place_and_fail.bundle", "compare replay show", ""),
-    ("examples/embed/lrc_embed.py", "limits embed bytes beside stores packages", ""),
+    ("examples/embed/lrc_embed.py", "limits embed views bytes beside stores packages", ""),
     ("examples/stores/threads/main.c", "stores", ""),
     ("examples/cluster/gateway.go", "cluster", ""),
     # The service.
@@ -57,7 +57,7 @@ ROWS = [
     ("crates/lrc_durability/src/laws.rt", "edits believe", "proofs"),
     ("crates/lrc_sessions_tests/src/code.rt", "edits believe tried", "proofs"),
     ("crates/probes/src/main.rt", "edits believe", "proofs growth"),
-    ("crates/lrc_embed/include/lrc_embed.h", "edits embed bytes stores service cluster packages", ""),
+    ("crates/lrc_embed/include/lrc_embed.h", "edits embed views bytes stores service cluster packages", ""),
     # What no compiler reads.
     ("crates/lrc_rules/specs/Steps.antt", "edits believe", "proofs"),
     ("crates/lrc_rules/proofs/ChangesLemmas.antt", "edits", "proofs"),
@@ -65,7 +65,7 @@ ROWS = [
     ("crates/lrc_rules/must-fail/a_new_one.edit", "edits", "proofs"),
     ("crates/lrcman/stdout", "edits", "proofs"),
     # Together.
-    ("crates/lrc_show/src/status.rt tests/program/show docs/SPEED.md", f"edits believe tried {QUICK}", "proofs sweep replay limits packages bench budget embed bytes beside stores service cluster"),
+    ("crates/lrc_show/src/status.rt tests/program/show docs/SPEED.md", f"edits believe tried {QUICK}", "proofs sweep replay limits packages bench budget embed views bytes beside stores service cluster"),
     # What no part looks at.
     (".gitignore", "", ""),
 ]
