@@ -1,3 +1,4 @@
 pub mod FilledLemmas
 pub mod SameLemmas
 pub mod RecipeLemmas
+pub mod ReadLemmas

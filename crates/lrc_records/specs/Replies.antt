@@ -1,5 +1,5 @@
 -- The struct of a reply.
-use Rattle.std.specs.Prelude.{ℕ, List, ◌++◌, map, replicate}
+use Rattle.std.specs.Prelude.{ℕ, ◌<◌, List, ◌++◌, map, replicate}
 use Rattle.lrc_topology.specs.declared.seat.Seat.{Seat}
 use Rattle.lrc_terms.specs.declared.lease.Lease.{Lease}
 use Rattle.lrc_rules.specs.declared.kind.Kind.{Kind}
@@ -63,6 +63,18 @@ encoded_refusal (refusal.NotHolder session) = (114, session.value)
 encoded_refusal (refusal.TargetOffline n) = (115, n.value)
 encoded_refusal refusal.NoLease = (116, 0)
 encoded_refusal (refusal.NotEmpty seats) = (117, seats)
+
+-- the number of a refusal's upgrade domain is below 256, and that of its node below 65,536; the types keep its other numbers
+-- in range
+abbrev pub IsRefusalInRange : Refusal → Type 0
+IsRefusalInRange (refusal.UpgradeRunning u) = u.value < 256
+IsRefusalInRange (refusal.TargetOffline n) = n.value < 65536
+IsRefusalInRange other = Unit {0}
+
+-- so are those of a reply's refusal; the fields of its record keep its other numbers in range
+abbrev pub IsReplyInRange : Reply → Type 0
+IsReplyInRange (Refused r) = IsRefusalInRange r
+IsReplyInRange other = Unit {0}
 
 -- no reply: all is 0
 abbrev pub blank_reply : LrcReply

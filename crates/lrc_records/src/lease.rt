@@ -1,7 +1,9 @@
-ghost use Rattle.std.specs.Prelude.{◌≡◌};
+ghost use Rattle.std.specs.Prelude.{◌≡◌, ◌≢◌, None, IfSome};
+ghost use Rattle.lrc_terms.specs.declared.lease.Lease.{Lease as AnyLease};
 ghost use Rattle.lrc_records.specs.Replies.{encoded_lease, lease_in_reply};
 
 use crate::LrcSeat;
+use lrc_code::{Fragment, SessionNo, StripeNo};
 use lrc_rules::Lease;
 
 /// A lease of a fragment of a stripe. The holder is a session, the target the seat that the fragment gets. The expiry is the
@@ -49,5 +51,20 @@ impl LrcLease {
             expiry: 0,
             ..LrcLease::of(lease)
         }
+    }
+
+    /// A lease of which this is the record; `None` if a number is out of range.
+    pub(crate) fn read(&self) -> Option<Lease>
+        ensures some { IfSome result (λ lease. encoded_lease lease ≡ self.now) }
+        ensures none { (result ≡ None) → (lease : AnyLease) → encoded_lease lease ≢ self.now }
+    {
+        Some(Lease {
+            stripe: StripeNo::new(self.stripe)?,
+            fragment: Fragment::new(self.fragment)?,
+            holder: SessionNo::new(self.holder)?,
+            target: self.target.seat(),
+            epoch: self.epoch,
+            expiry: self.expiry,
+        })
     }
 }

@@ -1,4 +1,6 @@
-ghost use Rattle.std.specs.Prelude.{◌≡◌, ◌-◌, ◌≤◌, ◌++◌, length, map, replicate};
+ghost use Rattle.std.specs.Prelude.{◌≡◌, ◌≢◌, ◌-◌, ◌≤◌, List, ◌++◌, length, map, take, replicate, None, IfSome, IsSomeAnd};
+ghost use Rattle.lrc_code.specs.declared.numbers.Fragment.{Fragment as AnyFragment};
+ghost use Rattle.lrc_rules.specs.declared.kind.Kind.{Kind as AnyKind};
 ghost use Rattle.lrc_records.specs.Replies.{encoded_repair, repair_plan};
 
 use lrc_code::Fragment;
@@ -50,4 +52,31 @@ fn numbers_of(fragments: &[Fragment]) -> [u8; 6]
         numbers[i] = fragment.value;
     }
     numbers
+}
+
+/// The kind of repair that has this number and these sources, with 0 after them.
+pub(crate) fn read_repair(repair: u8, sources: &[u8; 6]) -> Option<Kind>
+    ensures { (kind : AnyKind) → encoded_repair kind ≡ (repair, sources.now) →
+        IsSomeAnd result (λ read. encoded_repair read ≡ (repair, sources.now)) }
+{
+    match repair {
+        1 => Some(Kind::Local(read_fragments(sources)?)),
+        2 => Some(Kind::Global),
+        3 => Some(Kind::Move),
+        4 => Some(Kind::Local3(read_fragments(sources)?)),
+        _ => None,
+    }
+}
+
+/// The fragments that have the first of these numbers; `None` if one of them is out of range.
+fn read_fragments<const N: usize>(numbers: &[u8; 6]) -> Option<[Fragment; N]>
+    requires few { N ≤ 6 }
+    ensures some { IfSome result (λ fragments. map (λ f. f.value) fragments ≡ take N numbers.now) }
+    ensures none { (result ≡ None) → (fragments : List AnyFragment) → map (λ f. f.value) fragments ≢ take N numbers.now }
+{
+    let mut fragments = [Fragment { value: 0 }; N];
+    for i in 0..N {
+        fragments[i] = Fragment::new(numbers[i])?;
+    }
+    Some(fragments)
 }

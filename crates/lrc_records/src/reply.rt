@@ -1,10 +1,13 @@
-ghost use Rattle.std.specs.Prelude.{◌≡◌, ◌↔◌, true};
+ghost use Rattle.std.specs.Prelude.{◌≡◌, ◌≢◌, ◌↔◌, true, None, IfSome, IsSomeAnd};
+ghost use Rattle.lrc_rules.specs.declared.refusal.Refusal.{Refusal as AnyRefusal};
+ghost use Rattle.lrc_rules.specs.declared.reply.Reply.{Reply as AnyReply};
 ghost use Rattle.lrc_answers.specs.Answers.{lent};
-ghost use Rattle.lrc_records.specs.Replies.{encoded_refusal, encoded_reply};
+ghost use Rattle.lrc_records.specs.Replies.{IsRefusalInRange, IsReplyInRange, encoded_refusal, encoded_reply};
 
-use crate::repair::repair_of;
+use crate::repair::{read_repair, repair_of};
 use crate::{LrcLease, LrcSeat};
 use lrc_answers::ReplyRef;
+use lrc_code::{Fragment, NodeNo, SessionNo, StripeNo, UpgradeNo};
 use lrc_rules::{Refusal, Reply};
 
 /// A reply. `set` has the kinds, and `repair_of` those of a repair. A field that the kind does not use is 0.
@@ -91,6 +94,43 @@ impl LrcReply {
     {
         LrcReply::of(reply) == *self
     }
+
+    /// A reply of which this is the record; `None` if it is that of none: a number is out of range, or a field that the kind
+    /// does not use is not 0. A lease that is read has the expiry 0.
+    pub fn read(&self) -> Option<Reply>
+        ensures some { IfSome result (λ reply. IsReplyInRange reply × (encoded_reply reply ≡ self.now)) }
+        ensures none { (result ≡ None) → (reply : AnyReply) → IsReplyInRange reply → encoded_reply reply ≢ self.now }
+    {
+        let reply = self.read_used()?;
+        if self.is_of(&reply) {
+            Some(reply)
+        } else {
+            None
+        }
+    }
+
+    /// The reply that the fields say which the kind uses.
+    fn read_used(&self) -> Option<Reply>
+        ensures range { IfSome result IsReplyInRange }
+        ensures read { (reply : AnyReply) → IsReplyInRange reply → encoded_reply reply ≡ self.now →
+            IsSomeAnd result (λ read. encoded_reply read ≡ self.now) }
+    {
+        match self.kind {
+            1 => Some(Reply::Placed(LrcSeat::first(&self.seats))),
+            2 => Some(Reply::Dropped),
+            3 => Some(Reply::Granted(self.lease.read()?, read_repair(self.repair, &self.sources)?)),
+            4 => Some(Reply::Idle),
+            5 => Some(Reply::Ended),
+            6 => Some(Reply::Changed),
+            7 => Some(Reply::Refused(read_refusal(self.refusal, self.detail)?)),
+            8 => Some(Reply::Ticked {
+                clock: self.clock,
+                ended: self.ended,
+            }),
+            9 => Some(Reply::Placed6(LrcSeat::first(&self.seats))),
+            _ => None,
+        }
+    }
 }
 
 /// The number of a refusal, and the number that it names, or 0.
@@ -115,5 +155,37 @@ fn refusal_of(refusal: &Refusal) -> (u8, u32)
         Refusal::TargetOffline(node) => (115, node.value as u32),
         Refusal::NoLease => (116, 0),
         Refusal::NotEmpty(seats) => (117, seats),
+    }
+}
+
+/// The refusal that has this number, and names this one, or 0.
+fn read_refusal(refusal: u8, detail: u32) -> Option<Refusal>
+    ensures some { IfSome result (λ read. IsRefusalInRange read × (encoded_refusal read ≡ (refusal, detail))) }
+    ensures none { (result ≡ None) → (any : AnyRefusal) → IsRefusalInRange any → encoded_refusal any ≢ (refusal, detail) }
+{
+    match refusal {
+        103 => Some(Refusal::NoLawfulNode(Fragment::new(u8::try_from(detail).ok()?)?)),
+        107 => Some(Refusal::UpgradeRunning(UpgradeNo {
+            value: u8::try_from(detail).ok()?,
+        })),
+        109 => Some(Refusal::WouldLose(StripeNo::new(u16::try_from(detail).ok()?)?)),
+        110 => Some(Refusal::AlreadyLeased(detail)),
+        114 => Some(Refusal::NotHolder(SessionNo::new(u8::try_from(detail).ok()?)?)),
+        115 => Some(Refusal::TargetOffline(NodeNo {
+            value: u16::try_from(detail).ok()?,
+        })),
+        117 => Some(Refusal::NotEmpty(detail)),
+        _ if detail != 0 => None,
+        101 => Some(Refusal::UnknownStripe),
+        102 => Some(Refusal::StripeExists),
+        104 => Some(Refusal::UnknownNode),
+        105 => Some(Refusal::WrongMode),
+        106 => Some(Refusal::UnknownDomain),
+        108 => Some(Refusal::NotUpgrading),
+        111 => Some(Refusal::NotNeeded),
+        112 => Some(Refusal::Unrecoverable),
+        113 => Some(Refusal::Stale),
+        116 => Some(Refusal::NoLease),
+        _ => None,
     }
 }

@@ -1,6 +1,7 @@
-ghost use Rattle.std.specs.Prelude.{◌≡◌, ◌-◌, ◌≤◌, ◌++◌, length, map, replicate};
+ghost use Rattle.std.specs.Prelude.{◌≡◌, ◌-◌, ◌≤◌, ◌++◌, length, map, take, replicate};
 ghost use Rattle.lrc_records.specs.Replies.{encoded_seat, no_seat};
 
+use lrc_code::NodeNo;
 use lrc_rules::Seat;
 
 /// A slot of a node.
@@ -21,6 +22,28 @@ impl LrcSeat {
             node: seat.node.value,
             slot: seat.slot,
         }
+    }
+
+    /// The seat of which this is the record.
+    pub(crate) fn seat(self) -> Seat
+        ensures { encoded_seat result ≡ self }
+    {
+        Seat {
+            node: NodeNo { value: self.node },
+            slot: self.slot,
+        }
+    }
+
+    /// The seats of the first fragments.
+    pub(crate) fn first<const N: usize>(encoded: &[LrcSeat; 16]) -> [Seat; N]
+        requires few { N ≤ 16 }
+        ensures { map encoded_seat result ≡ take N encoded.now }
+    {
+        let mut seats = [LrcSeat::NONE.seat(); N];
+        for i in 0..N {
+            seats[i] = encoded[i].seat();
+        }
+        seats
     }
 
     /// The seats of the fragments from 0 on, and no seat after them.
