@@ -1,5 +1,6 @@
 pub mod DigitLemmas
 pub mod PairLemmas
+pub mod CutLemmas
 pub mod FieldLemmas
 pub mod TableLemmas
 pub mod MaskLemmas

@@ -10,4 +10,4 @@ mod texts;
 
 pub use masks::{parse_mask, push_mask_line};
 pub use tables::{level_word, mode_word, online_word, with_tables};
-pub use texts::{LINE_ROOM, push_lines, push_script_line};
+pub use texts::{LINE_ROOM, push_lines, push_reply, push_script_line};

@@ -226,6 +226,16 @@ pub fn push_lines(
     out.extend_from_slice(&room[start..])
 }
 
+/// Adds the text of a reply, without a number before it or an end of a line after it.
+pub fn push_reply(out: &mut Vec<u8>, reply: &ReplyRef<'_>) -> Result<(), AllocError>
+    ensures { OnOk result (out.new.items ≡ out.old.items ++ reply_text (lent reply.now)) }
+{
+    let mut room = [0u8; REPLY_ROOM];
+    let start = write_reply(reply, &mut room, REPLY_ROOM);
+    let text = &room[start + 1..REPLY_ROOM - 1];
+    out.extend_from_slice(text)
+}
+
 /// Adds the line before the replies of a session's script.
 pub fn push_script_line(out: &mut Vec<u8>, session: SessionNo) -> Result<(), AllocError>
     ensures { OnOk result (out.new.items ≡ out.old.items ++ script_line session.value) }
