@@ -730,6 +730,10 @@ uint32_t lrc_embed_forecast_table(lrc_handle *handle, uint8_t outage, const uint
 // The line that `lrcman run` prints of the entry at an index, from 0: its number in the store, its reply, and LF; at most 220
 // bytes. IS_CLOSED, UNKNOWN, OUT_OF_MEMORY, or FULL if lrc_embed_before is above 9,223,372,036,854,775,808.
 uint32_t lrc_embed_reply_line(lrc_handle *handle, size_t index, uint8_t *text, size_t room, size_t *length);
+// The text of a reply, which is its line without the number of its entry and without LF: at most 198 bytes. It takes no handle, so
+// a reply that a log or a client keeps has its text without a book. OUT_OF_RANGE if the library writes no such reply: a number is
+// out of range, or a field that the kind does not use is not 0; or OUT_OF_MEMORY.
+uint32_t lrc_embed_reply_text(const lrc_reply *reply, uint8_t *text, size_t room, size_t *length);
 // The line of a command in a script, without LF: at most 26 bytes. OUT_OF_RANGE if it is no command, or OUT_OF_MEMORY.
 uint32_t lrc_embed_command_line(const lrc_command *command, uint8_t *text, size_t room, size_t *length);
 // The command of a line of a script, which is given without its LF. DONE; UNKNOWN if the line is empty or a comment; or BAD_LINE,
