@@ -9,6 +9,7 @@ pub mod ReplayLemmas
 pub mod FeedRows
 pub mod Rows
 pub mod SameNodes
+pub mod TextLemmas
 pub mod Values
 pub mod WalkLemmas
 pub mod PrintedLemmas

@@ -9,7 +9,10 @@ ghost use Rattle.lrc_field.specs.Stripes.{Bytes, IsStripe};
 ghost use Rattle.lrc_coder.specs.Buffers.{bytes_at, each_of};
 ghost use Rattle.lrc_coder.specs.Coding.{IsRebuilt};
 ghost use Rattle.lrc_records.specs.Recipes.{IsRecipeOf};
+ghost use Rattle.lrc_records.specs.Replies.{encoded_reply};
 ghost use Rattle.lrc_rules.specs.declared.command.Command.{Command};
+ghost use Rattle.lrc_rules.specs.declared.reply.Reply.{Reply};
+ghost use Rattle.lrc_text.specs.Texts.{reply_text};
 ghost use Rattle.lrc_book.specs.Books.{BookView, state_of, IsBook};
 ghost use Rattle.lrc_book.specs.SameLooks.{HaveSameLooks};
 ghost use Rattle.lrc_feed.specs.declared.feed.FedCall.{FedCall};
@@ -30,6 +33,11 @@ pub fn recipes_rebuild_their_fragment()
 /// The word and the fields of a kind of command are those of its lines in scripts, as they are read and written.
 pub fn commands_have_fields()
     ensures { (command : Command) → HasFields command }
+{}
+
+/// Replies of one record have one text, so a record has the text that its reply has in the output.
+pub fn a_record_has_its_text()
+    ensures { (a b : Reply) → encoded_reply a ≡ encoded_reply b → reply_text a ≡ reply_text b }
 {}
 
 /// A viewer that has made the calls which the published book has made since has the same entries, and every look at it
