@@ -18,6 +18,35 @@
         }                                                                                                                        \
     } while (0)
 
+// Room for nothing, by a null pointer: what a text would take is told. So is no node, and the outage of none.
+static void texts_without_room(size_t status_length, size_t line_length) {
+    static const char *const none_stop = "stripe,code,level_before,margin_before,level_after,margin_after,missing_after,"
+                                         "missing_fragments_after,leases_ended,harmed\n1,wide,risk,2,risk,2,0x0008,3,0,no\n";
+    const lrc_command command = {.kind = LRC_REPORT, .stripe = 1, .fragment = 3, .epoch = 10};
+    const uint16_t hit = 3;
+    uint8_t is_safe = 99;
+    size_t length = 99;
+    uint32_t status;
+    STATUS(status, lrc_embed_show(&handle, LRC_SHOW_STATUS, 0, 0, &length));
+    WANT(status == LRC_SHORT && length == status_length);
+    STATUS(status, lrc_embed_reply_line(&handle, 0, 0, 0, &length));
+    WANT(status == LRC_SHORT && length == line_length);
+    STATUS(status, lrc_embed_command_line(&command, 0, 0, &length));
+    WANT(status == LRC_SHORT && length == strlen("done 1 3 10"));
+    STATUS(status, lrc_embed_forecast_table(&handle, LRC_STOP, &hit, 1, 0, 0, &length, &is_safe));
+    WANT(status == LRC_SHORT && length == strlen(none_stop) && is_safe == 1); // (node 3 is gone already)
+    is_safe = 99;
+    STATUS(status, lrc_embed_forecast_table(&handle, LRC_STOP, 0, 0, 0, 0, &length, &is_safe));
+    WANT(status == LRC_SHORT && length == strlen(none_stop) && is_safe == 1);
+    TEXT(none_stop, lrc_embed_forecast_table(&handle, LRC_STOP, 0, 0, text, room, &length, &is_safe));
+    length = 99, is_safe = 99;
+    WANT(lrc_embed_show(&handle, 0, 0, 0, &length) == LRC_OUT_OF_RANGE);
+    WANT(lrc_embed_reply_line(&handle, 3, 0, 0, &length) == LRC_UNKNOWN);
+    WANT(lrc_embed_command_line(&(lrc_command){.kind = 0}, 0, 0, &length) == LRC_OUT_OF_RANGE);
+    WANT(lrc_embed_forecast_table(&handle, 0, 0, 0, 0, 0, &length, &is_safe) == LRC_OUT_OF_RANGE);
+    WANT(length == 99 && is_safe == 99);
+}
+
 static void texts_of_closed(void) {
     lrc_command command = {.kind = LRC_NEXT};
     lrc_entry entry = {.session = 99};
@@ -33,6 +62,9 @@ static void texts_of_closed(void) {
     WANT(lrc_embed_forecast_table(&handle, LRC_LOSE, &none, 1, text, 2, &length, &is_safe) == LRC_IS_CLOSED);
     WANT(lrc_embed_forecast_table(&handle, 3, &none, 1, text, 2, &length, &is_safe) == LRC_OUT_OF_RANGE);
     WANT(lrc_embed_reply_line(&handle, 0, text, 2, &length) == LRC_IS_CLOSED);
+    WANT(lrc_embed_show(&handle, LRC_SHOW_STATUS, 0, 0, &length) == LRC_IS_CLOSED);
+    WANT(lrc_embed_forecast_table(&handle, LRC_LOSE, 0, 0, 0, 0, &length, &is_safe) == LRC_IS_CLOSED);
+    WANT(lrc_embed_reply_line(&handle, 0, 0, 0, &length) == LRC_IS_CLOSED);
     WANT(entry.session == 99 && text[0] == 9 && length == 99 && is_safe == 99);
 }
 
@@ -186,6 +218,7 @@ static void texts_of_book(void) {
     is_safe = 99;
     STATUS(status, lrc_embed_forecast_table(&handle, LRC_LOSE, hit, 4, text, 2, &length, &is_safe));
     WANT(status == LRC_SHORT && is_safe == 0);
+    texts_without_room(strlen(status_of_one), strlen("1 placed 0:0 1:0 2:0 3:0 4:0 5:0 6:0 7:0 8:0 9:0 10:0 11:0 16:0 12:0 13:0 14:0\n"));
     is_safe = 99, length = 99;
     WANT(lrc_embed_show(&handle, 0, text, 2, &length) == LRC_OUT_OF_RANGE);
     WANT(lrc_embed_show(&handle, LRC_SHOW_CAPACITY + 1, text, 2, &length) == LRC_OUT_OF_RANGE);

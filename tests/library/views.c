@@ -1,5 +1,5 @@
 // Published books and their viewers, by lrc_embed.h. tests/library/views builds and runs it.
-// Usage: views statuses | closes | refused FIRST LAST | beside CALLS LOOKERS | times CALLS LOOKERS
+// Usage: views statuses | full | closes | refused FIRST LAST | beside CALLS LOOKERS | times CALLS LOOKERS
 // It ends at the first thing that is not as wanted, with status 1.
 #define _POSIX_C_SOURCE 200809L
 #include "lrc_embed.h"
@@ -131,6 +131,30 @@ static uint64_t place_of(lrc_handle *book) {
 
 // ---- statuses
 
+// Where a book or a feed is open alone.
+static void test_halves(lrc_published *it, lrc_viewer *viewer) {
+    const lrc_command place = {.kind = LRC_PLACE, .stripe = 1};
+    const uint8_t *text = (const uint8_t *)nodes;
+    lrc_viewer closed = LRC_NO_VIEWER;
+    lrc_handle book = LRC_CLOSED;
+    lrc_reply reply = {.kind = 99};
+    uint64_t at = 77;
+    open_book(&book);
+    for (int part = 0; part < 2; part++) { // (a part that is moved away is closed)
+        lrc_published whole = *it;
+        lrc_viewer whole_viewer = *viewer;
+        if (part) it->feed = (lrc_feed){0}, viewer->feed = (lrc_feed){0};
+        else it->book = LRC_CLOSED, viewer->book = LRC_CLOSED;
+        WANT(lrc_embed_publish(&book, it) == LRC_IS_OPEN && place_of(&book) == 0);
+        WANT(lrc_embed_call_published(it, 1, &place, &reply) == LRC_IS_CLOSED && reply.kind == 99);
+        WANT(lrc_embed_view(it, text, nodes_length, &closed) == LRC_IS_CLOSED);
+        WANT(follow(viewer, &at) == LRC_IS_CLOSED && at == 77);
+        WANT(lrc_embed_view(&whole, text, nodes_length, viewer) == LRC_IS_OPEN);
+        *it = whole, *viewer = whole_viewer;
+    }
+    WANT(lrc_embed_close(&book) == LRC_DONE);
+}
+
 static void test_statuses(void) {
     lrc_handle book = LRC_CLOSED, other = LRC_CLOSED;
     lrc_published it = LRC_NOT_PUBLISHED;
@@ -160,13 +184,18 @@ static void test_statuses(void) {
     char *upgrade = nodes + strlen("[[node]]\nnumber = 0\nfault = 0\nupgrade = ");
     WANT(lrc_embed_view(&it, text, nodes_length - last, &viewer) == LRC_DIFFERENT);
     WANT(lrc_embed_view(&it, text, 5, &viewer) == LRC_DIFFERENT);
+    WANT(lrc_embed_view(&it, NULL, 0, &viewer) == LRC_DIFFERENT);
     *upgrade = '3';
     WANT(lrc_embed_view(&it, text, nodes_length, &viewer) == LRC_DIFFERENT);
     *upgrade = '0';
     WANT(follow(&viewer, &at) == LRC_IS_CLOSED);
     WANT(lrc_embed_view(&it, text, nodes_length, &viewer) == LRC_DONE);
     WANT(lrc_embed_view(&it, text, nodes_length, &viewer) == LRC_IS_OPEN);
+    test_halves(&it, &viewer);
     WANT(follow(&viewer, &at) == LRC_DONE && at == 1 && sum_of(&viewer.book) == sum_of(&it.book));
+    refuse_from(1); // (there is no call to make)
+    WANT(follow(&viewer, &at) == LRC_DONE && requests == 0);
+    refuse_from(0);
     // A call, a refused one, and a call that the published book made on its own.
     WANT(call(&it, (lrc_command){.kind = LRC_PLACE, .stripe = 2}) == LRC_DONE && call(&it, place) == LRC_DONE);
     lrc_level level = {0};
@@ -195,6 +224,79 @@ static void test_statuses(void) {
     WANT(follow(&viewer, &at) == ENDED && at == 4);
     WANT(lrc_embed_close_viewer(&viewer) == LRC_DONE && lrc_embed_close_viewer(&second) == LRC_DONE);
     WANT(lrc_embed_close(&other) == LRC_DONE);
+}
+
+// A published book that begins in an image.
+static lrc_published published_image(const char *image) {
+    lrc_handle book = LRC_CLOSED;
+    lrc_published it = LRC_NOT_PUBLISHED;
+    size_t detail = 0;
+    uint32_t cause = 0;
+    const uint8_t *text = (const uint8_t *)nodes, *from = (const uint8_t *)image;
+    WANT(lrc_embed_open_image(&book, text, nodes_length, from, strlen(image), &detail, &cause) == LRC_DONE);
+    WANT(lrc_embed_publish(&book, &it) == LRC_DONE);
+    return it;
+}
+
+// A store that has gone as far as one may makes one more call: then nobody can view it, but calls and looks go on.
+static void is_spent_by(const char *image, uint64_t before, lrc_command last) {
+    lrc_published it = published_image(image);
+    lrc_viewer viewer = viewer_of(&it), second = LRC_NO_VIEWER;
+    uint64_t at = 0;
+    WANT(call(&it, last) == LRC_DONE && place_of(&it.book) == before + 1);
+    WANT(lrc_embed_view(&it, (const uint8_t *)nodes, nodes_length, &second) == LRC_FULL);
+    WANT(follow(&second, &at) == LRC_IS_CLOSED && place_of(&it.book) == before + 1);
+    WANT(follow(&viewer, &at) == LRC_DONE && at == before + 1 && sum_of(&viewer.book) == sum_of(&it.book));
+    WANT(call(&it, (lrc_command){.kind = LRC_TICK}) == LRC_DONE && follow(&viewer, &at) == LRC_DONE && at == before + 2);
+    WANT(lrc_embed_close_viewer(&viewer) == LRC_DONE);
+    close_published(&it);
+}
+
+// Calls that are refused, and so only entries.
+static void call_often(lrc_published *it, long times) {
+    for (long i = 0; i < times; i++) WANT(call(it, (lrc_command){.kind = LRC_UP, .node = 1}) == LRC_DONE);
+}
+
+// The ends of a history, of a feed, and of the numbers of an image.
+static void test_full(void) {
+    const uint64_t most = 9223372036854775808u; // the most entries before an image
+    const lrc_command up = {.kind = LRC_UP, .node = 1}, tick = {.kind = LRC_TICK};
+    is_spent_by("image 1\nbefore 9223372036854775808\nclock 0\nend\n", most, up);
+    is_spent_by("image 1\nbefore 5\nclock 4293967291\nend\n", 5, tick);
+    is_spent_by("image 1\nbefore 5\nclock 0\nstripe6 2 15:0 17:0 18:0 19:0 20:0 21:0 22:0 - 24:0 26:0\n"
+                "granted 2 0 0 0 0 0 0 0 4293967294 0 0 0 0 0 0 0 0\nend\n", 5,
+                (lrc_command){.kind = LRC_LEASE, .stripe = 2, .fragment = 7});
+    // One entry more than a book may have that is published.
+    lrc_published it = published_image("image 1\nbefore 9223372036854775808\nclock 0\nend\n");
+    lrc_handle book = LRC_CLOSED;
+    WANT(call(&it, up) == LRC_DONE && lrc_embed_unpublish(&it, &book) == LRC_DONE);
+    WANT(lrc_embed_publish(&book, &it) == LRC_FULL && place_of(&book) == most + 1);
+    WANT(lrc_embed_unpublish(&it, &(lrc_handle){0}) == LRC_IS_CLOSED && lrc_embed_close(&book) == LRC_DONE);
+    // The history is full, of the book and then of the viewer.
+    uint64_t at = 77;
+    lrc_reply reply = {.kind = 99};
+    it = published_book();
+    lrc_viewer viewer = viewer_of(&it), early = viewer_of(&it);
+    call_often(&it, LRC_HISTORY_LIMIT);
+    WANT(lrc_embed_call_published(&it, 1, &tick, &reply) == LRC_FULL && reply.kind == 99);
+    WANT(place_of(&it.book) == LRC_HISTORY_LIMIT && follow(&viewer, &at) == LRC_DONE && at == LRC_HISTORY_LIMIT);
+    WANT(lrc_embed_forget(&it.book) == LRC_DONE && call(&it, tick) == LRC_DONE);
+    for (int i = 0; i < 2; i++) {
+        uint32_t clock = 99;
+        WANT(follow(&viewer, &at) == LRC_FULL && place_of(&viewer.book) == LRC_HISTORY_LIMIT);
+        WANT(follow(&early, &at) == LRC_FULL && place_of(&early.book) == LRC_HISTORY_LIMIT);
+        WANT(lrc_embed_clock(&early.book, &clock) == LRC_DONE && clock == 0);
+    }
+    WANT(lrc_embed_forget(&viewer.book) == LRC_DONE);
+    WANT(follow(&viewer, &at) == LRC_DONE && at == LRC_HISTORY_LIMIT + 1 && sum_of(&viewer.book) == sum_of(&it.book));
+    // The feed is full, and the history is not.
+    call_often(&it, LRC_FEED_LIMIT - LRC_HISTORY_LIMIT - 1);
+    for (int i = 0; i < 2; i++) WANT(lrc_embed_call_published(&it, 1, &tick, &reply) == LRC_FULL && reply.kind == 99);
+    WANT(place_of(&it.book) == LRC_FEED_LIMIT && follow(&viewer, &at) == LRC_DONE && at == LRC_FEED_LIMIT);
+    WANT(lrc_embed_unpublish(&it, &book) == LRC_DONE && lrc_embed_publish(&book, &it) == LRC_DONE);
+    WANT(call(&it, tick) == LRC_DONE && follow(&viewer, &at) == ENDED && at == LRC_FEED_LIMIT);
+    WANT(lrc_embed_close_viewer(&viewer) == LRC_DONE && lrc_embed_close_viewer(&early) == LRC_DONE);
+    close_published(&it);
 }
 
 // Closes in each order of a published book and two viewers; a viewer shows the same after the others are closed.
@@ -380,6 +482,7 @@ int main(int count, char **words) {
     write_nodes();
     if (count > 3) calls = strtoull(words[2], NULL, 10);
     if (!strcmp(words[1], "statuses")) test_statuses();
+    else if (!strcmp(words[1], "full")) test_full();
     else if (!strcmp(words[1], "closes")) test_closes();
     else if (!strcmp(words[1], "refused") && count > 3) test_refused(atol(words[2]), atol(words[3]));
     else if (!strcmp(words[1], "beside") && count > 3) test_beside(atoi(words[3]));

@@ -5,7 +5,7 @@ Usage: tests/library/views [--long] [FOLDER], where FOLDER has what examples/emb
 - Beside the model of tests/model/rules.py: a published book makes 600 drawn calls. Viewers that are made at several places follow
   it after each call, or now and then; then each reports all that the model does, the place too. The published book and its viewers
   forget in between. A viewer that has not followed yet is found out, so a body that does nothing would be.
-- From C (tests/library/views.c): each status; closes in each order; memory refused from each request on; and eight threads that
+- From C (tests/library/views.c): each status, with a full history, a full feed and numbers at their ends; closes in each order; memory refused from each request on; and eight threads that
   look while another one calls, each with a viewer of its own: each look shows what the book showed at its place, no place is less
   than the one before, and the last look is at the end. This is run plain and with the thread, the address and the
   undefined-behaviour sanitizers. They see the program, and of the library what it allocates.
@@ -125,6 +125,7 @@ def test_program(count, folder, room, calls):
         if program is None:
             continue
         count.run(f"statuses {flag}", program, "statuses")
+        count.run(f"full {flag}", program, "full")
         count.run(f"closes {flag}", program, "closes")
         told = count.run(f"refused {flag}", program, "refused", "1", "60")
         count.check(f"refused {flag}: {told}", told and int(told.split(" ")[0]) > 60)
