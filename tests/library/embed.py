@@ -17,6 +17,7 @@ Usage: tests/library/embed [--long] [FOLDER], where FOLDER has what examples/emb
   valgrind. Each request for memory is refused in turn, alone and with all that follow, each time in a copy (`fork`) of the
   process that made the requests before, so that these are not made once more. The program with the sanitizers takes so long
   that only every seventh request is refused alone in it; with --long each one is.
+- The checked build ends a program that is in one handle from two threads, and no other (tests/library/checked.py).
 - bench/embed ends well.
 
 What is left out for want of a compiler or tool is printed. The last line is 'N passed, M failed'."""
@@ -33,7 +34,7 @@ from concurrent.futures import ThreadPoolExecutor
 
 from tests import harness
 from tests.harness import CC, EXAMPLES, TESTS, TOP
-from tests.library import images, module, texts
+from tests.library import checked, images, module, texts
 from tests.library.library import code_word, command_of, load_rows, lrc_embed, of_version, risk_rows
 from tests.model import rules
 
@@ -572,6 +573,7 @@ def main(words):
         texts.test(count, ctypes.CDLL(library))
         test_bundles(count, library)
         test_calls(count, room, is_long)
+        checked.test(count, room, exports_of(sources()))
         count.run("bench/embed", sys.executable, f"{TOP}/bench/embed", "--quick", room)
     return count.report()
 
