@@ -103,9 +103,11 @@ static void make_beside(long number) {
     exit(0);
 }
 
-// A thread is inside of a call with the published book. Other handles, viewers, and calls without a handle are free.
+// Threads are inside of a call with the published book, and of one with a handle between two others. Other handles, viewers, and
+// calls without a handle are free.
 static void make_allowed(void) {
-    pthread_t thread;
+    static lrc_handle row[3];
+    pthread_t thread, between;
     lrc_command command = {.kind = LRC_PLACE, .stripe = 1};
     lrc_reply reply = {0};
     lrc_level level = {0};
@@ -114,7 +116,10 @@ static void make_allowed(void) {
     size_t length = 0;
     uint64_t at = 0;
     WANT(lrc_embed_call_published(&published, 1, &command, &reply) == LRC_DONE);
+    for (int i = 0; i < 3; i++) open_book(&row[i]);
     started(&thread, wait_in_show, &published.book);
+    started(&between, wait_in_show, &row[1]);
+    WANT(show(&row[0]) == LRC_DONE && show(&row[2]) == LRC_DONE);
     WANT(lrc_embed_follow(&second, &at, &is_published) == LRC_DONE && at == 1);
     WANT(lrc_embed_level(&second.book, 1, &level) == LRC_DONE && show(&second.book) == LRC_DONE);
     WANT(lrc_embed_call(&other, 1, &command, &reply) == LRC_DONE && show(&handle) == LRC_DONE);
@@ -122,7 +127,7 @@ static void make_allowed(void) {
     WANT(lrc_embed_recipe_of(LRC_WIDE, 1, 0, &recipe) == LRC_DONE && lrc_embed_status_name(0, text, sizeof text, &length) == LRC_DONE);
     WANT(lrc_embed_close_viewer(&second) == LRC_DONE && lrc_embed_close(&other) == LRC_DONE);
     atomic_store(&is_over, true);
-    WANT(pthread_join(thread, NULL) == 0);
+    WANT(pthread_join(thread, NULL) == 0 && pthread_join(between, NULL) == 0);
     WANT(lrc_embed_level(&published.book, 1, &level) == LRC_DONE); // (it is free again, for this thread too)
     printf("allowed\n");
 }
