@@ -39,6 +39,7 @@ static void texts_without_room(size_t status_length, size_t line_length) {
     STATUS(status, lrc_embed_forecast_table(&handle, LRC_STOP, 0, 0, 0, 0, &length, &is_safe));
     WANT(status == LRC_SHORT && length == strlen(none_stop) && is_safe == 1);
     TEXT(none_stop, lrc_embed_forecast_table(&handle, LRC_STOP, 0, 0, text, room, &length, &is_safe));
+    WANT(is_safe == 1);
     length = 99, is_safe = 99;
     WANT(lrc_embed_show(&handle, 0, 0, 0, &length) == LRC_OUT_OF_RANGE);
     WANT(lrc_embed_reply_line(&handle, 3, 0, 0, &length) == LRC_UNKNOWN);
