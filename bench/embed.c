@@ -1,4 +1,5 @@
-// Measures calls of lrc_embed.h from C, in nanoseconds. bench/embed builds and runs it, and says what is measured.
+// Measures calls of lrc_embed.h from C, in nanoseconds, and the memory of a book, in bytes. bench/embed builds and runs it, and says
+// what is measured.
 // Usage: embed NODES STRIPES ROUNDS; prints lines of a name and numbers.
 #define _DEFAULT_SOURCE
 #include "lrc_embed.h"
@@ -9,7 +10,7 @@
 #include <string.h>
 #include <time.h>
 
-enum { MOST_ROUNDS = 1001, MOST_ENTRIES = 400000, CYCLES = 20, BATCH = 256, MANY = 1000, LOOKS = 100000, IMAGES = 4 };
+enum { MOST_ROUNDS = 1001, MOST_ENTRIES = 400000, CYCLES = 20, BATCH = 256, MANY = 1000, LOOKS = 100000, IMAGES = 4, TABLES = LRC_SHOW_CAPACITY };
 
 // The kinds of calls, each made in runs of its own.
 enum kind { FILL, REFUSED, IDLE, PLACE, DROP, NEXT, REPORT, OTHER, KINDS };
@@ -242,6 +243,54 @@ static void time_images(unsigned round) {
     for (unsigned i = 0; i < IMAGES; i++) WANT(lrc_embed_close(&others[i]) == LRC_DONE);
 }
 
+// The tables of the book, by their lrc_view.
+static double shown[TABLES + 1][MOST_ROUNDS];
+static size_t table_lengths[TABLES + 1];
+
+static void time_tables(unsigned round) {
+    static uint8_t text[1 << 23];
+    for (uint8_t table = 1; table <= TABLES; table++) {
+        double begun = now();
+        WANT(lrc_embed_show(&handle, table, text, sizeof text, &table_lengths[table]) == LRC_DONE);
+        shown[table][round] = now() - begun;
+    }
+}
+
+// Bytes that the program holds, as the allocator counts them.
+static size_t held(void) {
+    struct mallinfo2 info = mallinfo2();
+    return info.uordblks + info.hblkhd;
+}
+
+static void call(lrc_command command, uint8_t reply_kind) {
+    lrc_reply reply = {0};
+    WANT(lrc_embed_call(&handle, 1, &command, &reply) == LRC_DONE && reply.kind == reply_kind);
+}
+
+// What a book holds with no stripe, with 1,000, or as many as there are, and with all; and what an entry of a full history does:
+// of a command that is refused, and how much more of a `place`.
+static void print_memory(void) {
+    const unsigned filled[] = {0, stripes < 1000 ? stripes : 1000, stripes};
+    const lrc_command place = {.kind = LRC_PLACE}, drop = {.kind = LRC_DROP};
+    WANT(lrc_embed_close(&handle) == LRC_DONE);
+    size_t none = held();
+    open_new();
+    for (unsigned i = 0, stripe = 0; i < 3; i++) {
+        for (; stripe < filled[i]; stripe++) call((lrc_command){.kind = LRC_PLACE, .stripe = (uint16_t)stripe}, LRC_PLACED);
+        printf("memory_%u %u %zu\n", i, filled[i], held() - none);
+    }
+    WANT(lrc_embed_forget(&handle) == LRC_DONE && lrc_embed_close(&handle) == LRC_DONE);
+    open_new();
+    none = held();
+    for (unsigned i = 0; i < LRC_HISTORY_LIMIT; i++) call((lrc_command){.kind = LRC_UP}, LRC_REFUSED);
+    size_t full = held();
+    printf("entry %.1f\n", (double)(full - none) / LRC_HISTORY_LIMIT);
+    WANT(lrc_embed_forget(&handle) == LRC_DONE);
+    for (unsigned i = 0; i < LRC_HISTORY_LIMIT / 2; i++) call(place, LRC_PLACED), call(drop, LRC_DROPPED);
+    printf("entry_of_place %.1f\n", ((double)held() - (double)full) / (LRC_HISTORY_LIMIT / 2.0));
+    WANT(lrc_embed_close(&handle) == LRC_DONE);
+}
+
 // A book whose history is full answers so before it looks at the command, and one that is closed is no book.
 static void time_full(void) {
     const lrc_command command = {.kind = LRC_UP};
@@ -276,6 +325,7 @@ int main(int argc, char **argv) {
         time_runs(replay_run, replayed, round);
         time_looks(round);
         time_images(round);
+        time_tables(round);
     }
     time_full();
     for (int look = 0; look < ALL_LOOKS; look++) printf("%s %.1f\n", look_names[look], median(looked[look]));
@@ -284,5 +334,7 @@ int main(int argc, char **argv) {
         if (has_own) printf(" %.1f %.1f", median(own[kind]), median(more[kind]));
         printf("\n");
     }
+    for (int table = 1; table <= TABLES; table++) printf("show_%d %.0f %zu\n", table, median(shown[table]), table_lengths[table]);
+    print_memory();
     return 0;
 }

@@ -13,7 +13,8 @@ and filled. A table reports the medians over the rounds, in nanoseconds of proce
              reply compared
 
 After each of the ways the history has to be that of the others. A second table has looks, whole, and calls that the
-book has no part in.
+book has no part in; a third the texts of `lrc_embed_show`, in milliseconds. Lines about memory follow: the bytes that a book holds, with
+the allocator's own, and those of an entry of a full history.
 
   --nodes N     nodes of the store, 32 to 512 (512)
   --stripes N   stripes that fill it, 256 to 4096, at most eight for each node (4096)
@@ -55,6 +56,8 @@ LOOKS = {
     "closed": "`lrc_embed_call`, the handle is closed",
     "full": "`lrc_embed_call`, the history is full",
 }
+
+TABLES = ["status", "stripes", "nodes", "leases", "work", "fragments", "domains fault", "domains upgrade", "health", "capacity"]
 
 
 def options(words):
@@ -108,6 +111,15 @@ def main(words):
     print_head(["look", "from C"])
     for name, what in LOOKS.items():
         print_row([what, f"{told[name][0]:.1f}"])
+    print()
+    print_head(["`show`", "ms", "bytes"])
+    for number, table in enumerate(TABLES, 1):
+        nanoseconds, length = told[f"show_{number}"]
+        print_row([f"`{table}`", f"{nanoseconds / 1e6:.2f}", f"{length:.0f}"])
+    print()
+    for filled, size in dict(told[f"memory_{part}"] for part in range(3)).items():
+        print(f"a book with {filled:.0f} stripes: {size / 2**20:.2f} MiB")
+    print(f"an entry: {told['entry'][0]:.0f} bytes, and of `place` {told['entry_of_place'][0]:.0f} more")
 
 
 if __name__ == "__main__":
