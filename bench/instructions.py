@@ -91,6 +91,16 @@ def instructions(program, text, output):
     return int(found[1])
 
 
+def in_functions(names, words):
+    """The instructions within the functions of these names, and what they call, for each of the calls that the program prints."""
+    env = {**os.environ, "GLIBC_TUNABLES": f"glibc.cpu.hwcaps={PLAINEST}"}
+    ended = subprocess.run([*COUNTING, f"--toggle-collect={names}", *words], env=env, capture_output=True)
+    found = re.search(rb"^==[0-9]+== Collected : ([0-9]+)$", ended.stderr, re.MULTILINE)
+    if ended.returncode != 0 or not found:
+        raise Wrong(f"status {ended.returncode}, {ended.stderr.decode(errors='replace')[-300:]}")
+    return int(found[1]) / int(ended.stdout)
+
+
 class Counter:
     """Counts the instructions of a program, of each filling of a store once."""
 
