@@ -188,6 +188,14 @@ static void test_statuses(void) {
     *upgrade = '3';
     WANT(lrc_embed_view(&it, text, nodes_length, &viewer) == LRC_DIFFERENT);
     *upgrade = '0';
+    // The same nodes in another order, and in the same order by another text.
+    static char others[sizeof nodes];
+    const uint8_t *other_text = (const uint8_t *)others;
+    memcpy(others, nodes + nodes_length - last, last), memcpy(others + last, nodes, nodes_length - last);
+    WANT(lrc_embed_view(&it, other_text, nodes_length, &viewer) == LRC_DIFFERENT);
+    others[0] = '\n', memcpy(others + 1, nodes, nodes_length);
+    WANT(lrc_embed_view(&it, other_text, nodes_length + 1, &second) == LRC_DONE);
+    WANT(sum_of(&second.book) == sum_of(&it.book) && lrc_embed_close_viewer(&second) == LRC_DONE);
     WANT(follow(&viewer, &at) == LRC_IS_CLOSED);
     WANT(lrc_embed_view(&it, text, nodes_length, &viewer) == LRC_DONE);
     WANT(lrc_embed_view(&it, text, nodes_length, &viewer) == LRC_IS_OPEN);
