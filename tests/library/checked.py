@@ -5,8 +5,9 @@ The calls are those that the crate exports, so one that the build forgets is fou
 import re
 import signal
 import subprocess
+import sys
 
-from tests.harness import CC, EXAMPLES, TESTS, TOP
+from tests.harness import CC, EXAMPLES, TESTS, TOP, read
 
 # For each kind of handle: one that a thread is inside of, with the call that it is inside of, and one that is free.
 BUSY = {
@@ -99,3 +100,6 @@ def test(count, room, exports):
     calls = built(count, room, "embed", "liblrc_embed_checked", "-Wl,--wrap=malloc,--wrap=realloc,--wrap=free")
     if calls:
         count.run("embed.c, checked", calls, "images")
+    found = count.run("late_worker.py, checked", sys.executable, f"{EXAMPLES}/embed/late_worker.py", f"{room}/liblrc_embed_checked.so")
+    replies = read(f"{EXAMPLES}/late_worker.out").decode().split("risk\n")[0]
+    count.check(f"late_worker.py, checked: {found}", found == replies + "replayed 9\ndifferent at 4\n")
