@@ -120,7 +120,8 @@ int main(int argc, char **argv) {
     nodes = (unsigned)strtoul(argv[1], NULL, 10), stripes = (unsigned)strtoul(argv[2], NULL, 10);
     WANT(nodes >= 32 && nodes <= 512 && stripes >= 256 && stripes <= LRC_STRIPES);
     for (unsigned i = 0; i < nodes; i++)
-        length += (size_t)sprintf(text + length, "[[node]]\nnumber = %u\nfault = %u\nupgrade = %u\nslots = 256\n", i, i % 32, (i / 32 + i) % 16);
+        length += (size_t)sprintf(text + length, "[[node]]\nnumber = %u\nfault = %u\nupgrade = %u\nslots = 256\n", i, i % 32,
+                                  (i / 32 + i) % 16);
     WANT(lrc_embed_open(&handle, (const uint8_t *)text, length, &detail) == LRC_DONE);
     for (unsigned i = 0; i < stripes; i++) WANT(call((lrc_command){.kind = LRC_PLACE, .stripe = (uint16_t)i}).kind == LRC_PLACED);
     for (unsigned cycle = 0; cycle < CYCLES; cycle++) play(argv[3], cycle);

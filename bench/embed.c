@@ -10,7 +10,8 @@
 #include <string.h>
 #include <time.h>
 
-enum { MOST_ROUNDS = 1001, MOST_ENTRIES = 400000, CYCLES = 20, BATCH = 256, MANY = 1000, LOOKS = 100000, IMAGES = 4, TABLES = LRC_SHOW_CAPACITY };
+enum { MOST_ROUNDS = 1001, MOST_ENTRIES = 400000, CYCLES = 20, BATCH = 256, MANY = 1000, LOOKS = 100000, IMAGES = 4,
+       TABLES = LRC_SHOW_CAPACITY };
 
 // The kinds of calls, each made in runs of its own.
 enum kind { FILL, REFUSED, IDLE, PLACE, DROP, NEXT, REPORT, OTHER, KINDS };
