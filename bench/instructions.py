@@ -96,7 +96,7 @@ def in_functions(names, words):
     env = {**os.environ, "GLIBC_TUNABLES": f"glibc.cpu.hwcaps={PLAINEST}"}
     ended = subprocess.run([*COUNTING, f"--toggle-collect={names}", *words], env=env, capture_output=True)
     found = re.search(rb"^==[0-9]+== Collected : ([0-9]+)$", ended.stderr, re.MULTILINE)
-    if ended.returncode != 0 or not found:
+    if ended.returncode != 0 or not found or found[1] == b"0":
         raise Wrong(f"status {ended.returncode}, {ended.stderr.decode(errors='replace')[-300:]}")
     return int(found[1]) / int(ended.stdout)
 

@@ -574,7 +574,9 @@ def main(words):
         test_bundles(count, library)
         test_calls(count, room, is_long)
         checked.test(count, room, exports_of(sources()))
-        count.run("bench/embed", sys.executable, f"{TOP}/bench/embed", "--quick", room)
+        told = count.run("bench/embed", sys.executable, f"{TOP}/bench/embed", "--quick", room) or ""
+        tables = re.findall(r"^\| `[a-z ]+` \| [\d.]+ \| \d+ \|$", told, re.M)
+        count.check(f"bench/embed: {told}", len(tables) == len(lrc_embed.View) and "\na book with 256 stripes: " in told)
     return count.report()
 
 
