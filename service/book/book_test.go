@@ -70,31 +70,67 @@ func TestCommandsAreWrittenAsTheyWereRead(t *testing.T) {
 }
 
 func TestRepliesAreWrittenAsRunPrintsThem(t *testing.T) {
+	lease, far := LeaseRow{Stripe: 1, Fragment: 3, Holder: 8, Target: Seat{17, 2}, Epoch: 5}, [Fragments]Seat{}
+	for i := range far {
+		far[i] = Seat{65535, 65535}
+	}
 	for want, reply := range map[string]Reply{
-		"placed 0:0 0:0 0:0 0:0 0:0 0:0 0:0 0:0 0:0 7:3": {Kind: Placed6, Seats: [Fragments]Seat{9: {7, 3}, 10: {9, 9}}},
+		"placed 0:0 0:0 0:0 0:0 0:0 0:0 0:0 0:0 0:0 7:3": {Kind: Placed6, Seats: [Fragments]Seat{9: {7, 3}}},
+		"placed" + strings.Repeat(" 65535:65535", 16):    {Kind: Placed, Seats: far}, // (none is longer)
 		"dropped": {Kind: Dropped}, "idle": {Kind: Idle}, "ended": {Kind: Ended}, "changed": {Kind: Changed},
-		"granted 1 3 17:2 epoch 5 local 0 1 2 4 5 12": {Kind: Granted, Repair: Local, Sources: [6]uint8{0, 1, 2, 4, 5, 12},
-			Lease: LeaseRow{Stripe: 1, Fragment: 3, Target: Seat{17, 2}, Epoch: 5}},
-		"granted 1 3 17:2 epoch 5 local 0 1 2": {Kind: Granted, Repair: Local3, Sources: [6]uint8{0, 1, 2},
-			Lease: LeaseRow{Stripe: 1, Fragment: 3, Target: Seat{17, 2}, Epoch: 5}},
-		"granted 1 3 17:2 epoch 5 global": {Kind: Granted, Repair: Global, Lease: LeaseRow{Stripe: 1, Fragment: 3, Target: Seat{17, 2}, Epoch: 5}},
-		"granted 1 3 17:2 epoch 5 move":   {Kind: Granted, Repair: Move, Lease: LeaseRow{Stripe: 1, Fragment: 3, Target: Seat{17, 2}, Epoch: 5}},
-		"ticked 7 2":                      {Kind: Ticked, Clock: 7, Ended: 2},
-		"refused 103 12":                  {Kind: Refused, Refusal: 103, Detail: 12},
-		"refused 107 0":                   {Kind: Refused, Refusal: 107},
-		"refused 109 1":                   {Kind: Refused, Refusal: 109, Detail: 1},
-		"refused 110 1":                   {Kind: Refused, Refusal: 110, Detail: 1},
-		"refused 111":                     {Kind: Refused, Refusal: 111},
-		"refused 114 2":                   OfNotHolder(2),
-		"refused 115 3":                   {Kind: Refused, Refusal: 115, Detail: 3},
-		"refused 117 4":                   {Kind: Refused, Refusal: 117, Detail: 4},
+		"granted 1 3 17:2 epoch 5 local 0 1 2 4 5 12": {Kind: Granted, Repair: Local, Sources: [6]uint8{0, 1, 2, 4, 5, 12}, Lease: lease},
+		"granted 1 3 17:2 epoch 5 local 0 1 2":        {Kind: Granted, Repair: Local3, Sources: [6]uint8{0, 1, 2}, Lease: lease},
+		"granted 1 3 17:2 epoch 5 global":             {Kind: Granted, Repair: Global, Lease: lease},
+		"granted 1 3 17:2 epoch 5 move":               {Kind: Granted, Repair: Move, Lease: lease},
+		"ticked 7 2":                                  {Kind: Ticked, Clock: 7, Ended: 2},
+		"refused 103 12":                              {Kind: Refused, Refusal: 103, Detail: 12},
+		"refused 107 0":                               {Kind: Refused, Refusal: 107},
+		"refused 109 1":                               {Kind: Refused, Refusal: 109, Detail: 1},
+		"refused 110 1":                               {Kind: Refused, Refusal: 110, Detail: 1},
+		"refused 111":                                 {Kind: Refused, Refusal: 111},
+		"refused 114 2":                               OfNotHolder(2),
+		"refused 115 3":                               {Kind: Refused, Refusal: 115, Detail: 3},
+		"refused 117 4":                               {Kind: Refused, Refusal: 117, Detail: 4},
 	} {
-		if have := reply.String(); have != want {
-			t.Errorf("%q, and not %q", have, want)
+		have, err := reply.Text()
+		if err != nil || have != want || reply.String() != want {
+			t.Errorf("%q, and not %q: %v", have, want, err)
 		}
-		text, err := json.Marshal(reply.JSON())
-		if err != nil || !strings.HasPrefix(string(text), fmt.Sprintf(`{"reply":%q,"kind":%q`, want, strings.Fields(want)[0])) {
+		said, err := reply.JSON()
+		if err != nil {
+			t.Error(want, err)
+		}
+		text, err := json.Marshal(said)
+		words := strings.Fields(want)
+		if err != nil || !strings.HasPrefix(string(text), fmt.Sprintf(`{"reply":%q,"kind":%q`, want, words[0])) {
 			t.Errorf("%s %v", text, err)
+		}
+		detail := ""
+		if words[0] == "refused" && len(words) == 3 {
+			detail = fmt.Sprintf(`,"detail":%s}`, words[2])
+		}
+		if has := strings.Contains(string(text), `"detail"`); has != (detail != "") || !strings.HasSuffix(string(text), detail) {
+			t.Errorf("%s: the detail is not %q", text, detail)
+		}
+	}
+}
+
+// What the library never replies has no text, and no JSON.
+func TestWhatIsNoReplyHasNoText(t *testing.T) {
+	for _, reply := range []Reply{
+		{}, {Kind: 10}, {Kind: Idle, Clock: 1}, {Kind: Refused, Refusal: 118}, {Kind: Refused, Refusal: 111, Detail: 1}, OfNotHolder(9),
+		{Kind: Granted, Repair: Move}, // (session 0 holds nothing)
+		{Kind: Placed6, Seats: [Fragments]Seat{10: {9, 9}}},
+		{Kind: Ended, Lease: LeaseRow{Expiry: 1}},
+	} {
+		if text, err := reply.Text(); !IsOutOfRange(err) || text != "" {
+			t.Errorf("%+v: %q %v", reply, text, err)
+		}
+		if _, err := reply.JSON(); !IsOutOfRange(err) {
+			t.Errorf("%+v: %v", reply, err)
+		}
+		if have, want := reply.String(), fmt.Sprintf("reply %d", reply.Kind); have != want {
+			t.Errorf("%q, and not %q", have, want)
 		}
 	}
 }
@@ -225,9 +261,9 @@ func drawn(r *rand.Rand) Command {
 		Node: uint16(r.Intn(21)), Domain: uint8(r.Intn(11))}
 }
 
-// The line of a reply is written here: it is the library's, which has it while the entry is in the history. Drawn calls reach every
-// kind of reply and of repair, and each refusal.
-func TestTheLineOfAReplyIsTheLibrarys(t *testing.T) {
+// A reply has the text that its line has while its entry is in the history. Drawn calls reach every kind of reply and of repair, and
+// each refusal.
+func TestTheTextOfAReplyIsThatOfItsLine(t *testing.T) {
 	met := map[string]bool{}
 	for seed := int64(1); seed <= 20; seed++ {
 		r, b := rand.New(rand.NewSource(seed)), open(t, "place 1", "fail 3", "lease 1 3", "down 17", "done 1 3 1")
@@ -242,8 +278,9 @@ func TestTheLineOfAReplyIsTheLibrarys(t *testing.T) {
 		}
 		for i, entry := range entries {
 			line, err := b.ReplyLine(i)
-			if have := fmt.Sprintf("%d %s\n", i+1, entry.Reply.String()); err != nil || line != have {
-				t.Errorf("%q and not %q, %v", have, line, err)
+			text, fault := entry.Reply.Text()
+			if have := fmt.Sprintf("%d %s\n", i+1, text); err != nil || fault != nil || line != have {
+				t.Errorf("%q and not %q, %v %v", have, line, err, fault)
 			}
 			met[fmt.Sprint(entry.Reply.Kind, entry.Reply.Repair, entry.Reply.Refusal, len(entry.Reply.sources()))] = true
 		}

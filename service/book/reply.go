@@ -1,6 +1,16 @@
 package book
 
-import "strconv"
+/*
+#include "lrc_embed.h"
+*/
+import "C"
+
+import (
+	"fmt"
+	"strconv"
+	"strings"
+	"unsafe"
+)
 
 // A ReplyKind has the numbers of lrc_reply_kind.
 type ReplyKind uint8
@@ -26,9 +36,6 @@ const (
 	NotHolder     = 114
 )
 
-// The refusals with a detail that is printed.
-var detailed = map[uint8]bool{103: true, 107: true, 109: true, 110: true, 114: true, 115: true, 117: true}
-
 // A Repair has the numbers of lrc_repair.
 type Repair uint8
 
@@ -51,11 +58,9 @@ func (r Repair) sources() int {
 type Seat struct{ Node, Slot uint16 }
 
 // String writes NODE:SLOT.
-func (s Seat) String() string { return string(s.append(nil)) }
-
-func (s Seat) append(text []byte) []byte {
-	text = append(strconv.AppendUint(text, uint64(s.Node), 10), ':')
-	return strconv.AppendUint(text, uint64(s.Slot), 10)
+func (s Seat) String() string {
+	text := append(strconv.AppendUint(nil, uint64(s.Node), 10), ':')
+	return string(strconv.AppendUint(text, uint64(s.Slot), 10))
 }
 
 // A LeaseRow has the layout of lrc_lease.
@@ -111,38 +116,24 @@ func (r *Reply) seats() []Seat {
 
 func (r *Reply) sources() []uint8 { return r.Sources[:r.Repair.sources()] }
 
-// String is the reply as `lrcman run` prints it, without the number of its entry. The library prints the replies of a book's history
-// alone, and a reply outlives that: it is told again for its key, and a peek or a refusal by the service is in no history. So the
-// line is written here, of the proved reply, with the library's words. Tests hold it against the library's line.
-func (r *Reply) String() string {
-	text := append(make([]byte, 0, 192), r.Word()...) // (most replies have room in it)
-	switch r.Kind {
-	case Placed, Placed6:
-		for _, seat := range r.seats() {
-			text = seat.append(append(text, ' '))
-		}
-	case Granted:
-		text = appendNumber(text, uint32(r.Lease.Stripe))
-		text = appendNumber(text, uint32(r.Lease.Fragment))
-		text = r.Lease.Target.append(append(text, ' '))
-		text = appendNumber(append(text, " epoch"...), r.Lease.Epoch)
-		text = append(append(text, ' '), r.Repair.String()...)
-		for _, source := range r.sources() {
-			text = appendNumber(text, uint32(source))
-		}
-	case Ticked:
-		text = appendNumber(appendNumber(text, r.Clock), r.Ended)
-	case Refused:
-		text = appendNumber(text, uint32(r.Refusal))
-		if detailed[r.Refusal] {
-			text = appendNumber(text, r.Detail)
-		}
-	}
-	return string(text)
+// mostText is the length of the longest text of a reply.
+const mostText = 198
+
+// Text is the reply as `lrcman run` prints it, without the number of its entry. A fault says that it is none of the library's replies,
+// or that memory was refused.
+func (r *Reply) Text() (string, error) {
+	text, length := make([]byte, mostText), C.size_t(0)
+	err := faultOf(C.lrc_embed_reply_text((*C.lrc_reply)(unsafe.Pointer(r)), firstByte(text), mostText, &length))
+	return string(text[:length]), err
 }
 
-func appendNumber(text []byte, number uint32) []byte {
-	return strconv.AppendUint(append(text, ' '), uint64(number), 10)
+// String is the text of the reply, or the number of its kind where there is none.
+func (r *Reply) String() string {
+	text, err := r.Text()
+	if err != nil {
+		return fmt.Sprintf("reply %d", r.Kind)
+	}
+	return text
 }
 
 // A ReplyJSON is a reply as JSON has it: its line, and the same in numbers. What the kind lacks is left out.
@@ -184,9 +175,13 @@ func (n Numbers) MarshalJSON() ([]byte, error) {
 	return append(text, ']'), nil
 }
 
-// JSON is the reply in words and numbers.
-func (r *Reply) JSON() ReplyJSON {
-	said := ReplyJSON{Reply: r.String(), Kind: r.Word()}
+// JSON is the reply in words and numbers. Its faults are those of Text.
+func (r *Reply) JSON() (ReplyJSON, error) {
+	text, err := r.Text()
+	if err != nil {
+		return ReplyJSON{}, err
+	}
+	said := ReplyJSON{Reply: text, Kind: r.Word()}
 	for _, seat := range r.seats() {
 		said.Seats = append(said.Seats, JSONSeat(seat))
 	}
@@ -200,10 +195,10 @@ func (r *Reply) JSON() ReplyJSON {
 		said.Clock, said.Ended = &clock, &ended
 	case Refused:
 		said.Refusal, said.Name = r.Refusal, RefusalName(r.Refusal)
-		if detailed[r.Refusal] {
+		if strings.Count(text, " ") == 2 { // (behind the number of the refusal there is the detail)
 			detail := r.Detail
 			said.Detail = &detail
 		}
 	}
-	return said
+	return said, nil
 }

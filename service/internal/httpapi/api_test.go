@@ -540,6 +540,20 @@ func TestALogIsAStream(t *testing.T) {
 	}
 }
 
+// An entry whose reply has no text ends a stream with a line that says so; those before it are there.
+func TestAStreamTellsWhatHasNoText(t *testing.T) {
+	written := httptest.NewRecorder()
+	tick := book.Entry{Session: 1, Command: book.Command{Kind: book.Tick}, Reply: book.Reply{Kind: book.Ticked, Clock: 1}}
+	wrong := tick
+	wrong.Reply.Detail = 1
+	(&logs{}).stream(&request{w: written}, 7, part{rows: []book.Entry{tick, wrong, tick}})
+	lines := strings.Split(written.Body.String(), "\n")
+	if len(lines) != 3 || !strings.HasPrefix(lines[0], `{"n":8,"session":1,"command":"tick","reply":"ticked 1 0",`) ||
+		!strings.HasPrefix(lines[1], `{"status":500,"code":"fault",`) {
+		t.Errorf("%q", lines)
+	}
+}
+
 func TestOpenStreamsAreLimited(t *testing.T) {
 	s := newService(t, nil)
 	for i := 0; i < mostStreams; i++ {

@@ -250,6 +250,10 @@ func (c *calls) call(q *request) error {
 	if err != nil {
 		return err
 	}
-	return q.say(http.StatusOK, callResponse{Made: answer.Made, Opens: answer.Opens, ReplyJSON: answer.Reply.JSON(), Holder: answer.Holder,
+	reply, err := answer.Reply.JSON()
+	if err != nil {
+		return err
+	}
+	return q.say(http.StatusOK, callResponse{Made: answer.Made, Opens: answer.Opens, ReplyJSON: reply, Holder: answer.Holder,
 		IsAgain: answer.IsAgain})
 }

@@ -239,10 +239,14 @@ func (l *looks) peek(q *request) error {
 	if err != nil {
 		return err
 	}
+	said, err := reply.JSON()
+	if err != nil {
+		return err
+	}
 	return q.say(http.StatusOK, struct {
 		position
 		book.ReplyJSON
-	}{position{at.Made, at.Opens, now}, reply.JSON()})
+	}{position{at.Made, at.Opens, now}, said})
 }
 
 // isCSV tells whether a table is asked for as CSV, and not as JSON.

@@ -79,15 +79,18 @@ func (l *logs) follow(name string, before part, from uint64) (part, error) {
 // stream writes entries, and waits for further ones if the client follows. What goes wrong is the last line.
 func (l *logs) stream(q *request, from uint64, now part) {
 	for {
-		if !q.writeEntries(from, now.rows) {
+		text, err := linesOf(from, now.rows)
+		if !q.pass(text) {
 			return
 		}
 		from += uint64(len(now.rows))
-		if len(now.rows) == 0 && !l.wait(q, now.grown) {
+		if err == nil && len(now.rows) == 0 && !l.wait(q, now.grown) {
 			return
 		}
-		var err error
-		if now, err = l.follow(q.names["book"], now, from); err != nil {
+		if err == nil {
+			now, err = l.follow(q.names["book"], now, from)
+		}
+		if err != nil {
 			text, _ := json.Marshal(failureOf(err))
 			q.w.Write(append(text, '\n'))
 			return
@@ -95,17 +98,22 @@ func (l *logs) stream(q *request, from uint64, now part) {
 	}
 }
 
-func (q *request) writeEntries(from uint64, rows []book.Entry) bool {
+// linesOf has a line for each entry behind a place, up to the first that has none.
+func linesOf(from uint64, rows []book.Entry) ([]byte, error) {
 	var text []byte
 	for i := range rows {
-		line, err := json.Marshal(callResponse{Made: from + uint64(i) + 1, Session: rows[i].Session, Command: rows[i].Command.String(),
-			ReplyJSON: rows[i].Reply.JSON()})
+		reply, err := rows[i].Reply.JSON()
 		if err != nil {
-			return false
+			return text, err
+		}
+		line, err := json.Marshal(callResponse{Made: from + uint64(i) + 1, Session: rows[i].Session, Command: rows[i].Command.String(),
+			ReplyJSON: reply})
+		if err != nil {
+			return text, err
 		}
 		text = append(append(text, line...), '\n')
 	}
-	return q.pass(text)
+	return text, nil
 }
 
 func (q *request) pass(text []byte) bool {

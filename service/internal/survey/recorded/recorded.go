@@ -376,7 +376,7 @@ func (v view) Entries(place uint64, most int) ([]book.Entry, error) {
 		if err != nil {
 			return nil, err
 		}
-		entries = append(entries, book.Entry{Session: line.Session, Command: command, Reply: replyOf(command, line.Reply)})
+		entries = append(entries, book.Entry{Session: line.Session, Command: command, Reply: replyOf(line.Session, command, line.Reply)})
 	}
 	return entries, nil
 }
@@ -384,8 +384,8 @@ func (v view) Entries(place uint64, most int) ([]book.Entry, error) {
 var replies = map[string]book.ReplyKind{"placed": book.Placed, "dropped": book.Dropped, "granted": book.Granted, "idle": book.Idle,
 	"ended": book.Ended, "changed": book.Changed, "refused": book.Refused, "ticked": book.Ticked}
 
-// replyOf reads a reply as `run` prints it.
-func replyOf(command book.Command, text string) book.Reply {
+// replyOf reads a session's reply as `run` prints it.
+func replyOf(session uint8, command book.Command, text string) book.Reply {
 	words := strings.Split(text, " ")
 	reply := book.Reply{Kind: replies[words[0]]}
 	switch words[0] {
@@ -397,8 +397,8 @@ func replyOf(command book.Command, text string) book.Reply {
 			reply.Seats[f] = seatOf(seat)
 		}
 	case "granted":
-		reply.Lease = book.LeaseRow{Stripe: uint16(numberOf(words[1])), Fragment: uint8(numberOf(words[2])), Target: seatOf(words[3]),
-			Epoch: uint32(numberOf(words[5]))}
+		reply.Lease = book.LeaseRow{Stripe: uint16(numberOf(words[1])), Fragment: uint8(numberOf(words[2])), Holder: session,
+			Target: seatOf(words[3]), Epoch: uint32(numberOf(words[5]))}
 		reply.Repair = map[string]book.Repair{"local": book.Local, "global": book.Global, "move": book.Move}[words[6]]
 		if len(words) == 10 {
 			reply.Repair = book.Local3
