@@ -14,7 +14,7 @@ type Reason struct {
 }
 
 // Health is the table of health as rows.
-func (b *Book) Health() ([]Reason, error) {
+func (b *Looks) Health() ([]Reason, error) {
 	text, err := b.table(views["health"])
 	if err != nil {
 		return nil, err

@@ -58,12 +58,17 @@ const (
 	_ = uint(C.sizeof_lrc_repair_plan - unsafe.Sizeof(Plan{}))
 	_ = uint(unsafe.Sizeof(Recipe{}) - C.sizeof_lrc_recipe)
 	_ = uint(C.sizeof_lrc_recipe - unsafe.Sizeof(Recipe{}))
+	_ = uint(unsafe.Sizeof(Change{}) - C.sizeof_lrc_change)
+	_ = uint(C.sizeof_lrc_change - unsafe.Sizeof(Change{}))
 )
 
-// A Book is one book of the library. One goroutine at a time may use it, looks included.
-type Book struct {
+// Looks read a book and change nothing.
+type Looks struct {
 	handle *C.lrc_handle // in C memory: the library keeps a pointer of its own in it
 }
+
+// A Book is one book of the library. One goroutine at a time may use it, looks included.
+type Book struct{ Looks }
 
 // A Fault is a status of the library other than done.
 type Fault struct {
@@ -158,7 +163,7 @@ func closed() (*Book, error) {
 	if handle == nil {
 		return nil, &Fault{Status: C.LRC_OUT_OF_MEMORY}
 	}
-	return &Book{handle}, nil
+	return &Book{Looks{handle}}, nil
 }
 
 // Open makes a book over the nodes of a text.
@@ -206,44 +211,15 @@ func (b *Book) Close() {
 	b.handle = nil
 }
 
-// Call makes one command and returns its entry.
-func (b *Book) Call(session uint8, command Command) (Entry, error) {
-	var entry Entry
-	status := C.lrc_embed_call_entry(b.handle, C.uint8_t(session), command.c(), (*C.lrc_entry)(unsafe.Pointer(&entry)))
-	return entry, faultOf(status)
-}
-
-// Peek returns the reply that a call would get now.
-func (b *Book) Peek(session uint8, command Command) (Reply, error) {
-	var reply Reply
-	status := C.lrc_embed_peek(b.handle, C.uint8_t(session), command.c(),
-		(*C.lrc_reply)(unsafe.Pointer(&reply)))
-	return reply, faultOf(status)
-}
-
-// Replay makes the commands of saved entries after those that the book has, and compares each reply. A fault's detail is the
-// position of the entry where it stopped; the book is closed then, and only Close may follow.
-func (b *Book) Replay(entries []Entry) error {
-	position := C.size_t(0)
-	var first *C.lrc_entry
-	if len(entries) > 0 {
-		first = (*C.lrc_entry)(unsafe.Pointer(&entries[0]))
-	}
-	if status := C.lrc_embed_replay(b.handle, first, C.size_t(len(entries)), &position); status != C.LRC_DONE {
-		return &Fault{Status: uint32(status), Detail: int(position)}
-	}
-	return nil
-}
-
 // Before is the number of entries that were made before those that the book still has.
-func (b *Book) Before() uint64 {
+func (b *Looks) Before() uint64 {
 	before := C.uint64_t(0)
 	C.lrc_embed_before(b.handle, &before)
 	return uint64(before)
 }
 
 // Made is the number of entries that were made.
-func (b *Book) Made() uint64 {
+func (b *Looks) Made() uint64 {
 	count := C.size_t(0)
 	C.lrc_embed_count(b.handle, &count)
 	return b.Before() + uint64(count)
@@ -253,14 +229,14 @@ func (b *Book) Made() uint64 {
 func (b *Book) Forget() error { return faultOf(C.lrc_embed_forget(b.handle)) }
 
 // Image is the text of the book's state. (To ask with no room would cost as much as the image)
-func (b *Book) Image() ([]byte, error) {
+func (b *Looks) Image() ([]byte, error) {
 	return textOf(1<<20, func(text *C.uint8_t, room C.size_t, length *C.size_t) C.uint32_t {
 		return C.lrc_embed_image(b.handle, text, room, length)
 	})
 }
 
 // Entries writes the entries behind a place, as many as there is room for, and returns how many.
-func (b *Book) Entries(place uint64, rows []Entry) (int, error) {
+func (b *Looks) Entries(place uint64, rows []Entry) (int, error) {
 	count := C.size_t(0)
 	first := (*C.lrc_entry)(unsafe.Pointer(&rows[0]))
 	status := C.lrc_embed_entries(b.handle, C.uint64_t(place), first, C.size_t(len(rows)), &count)

@@ -118,42 +118,42 @@ type Plan struct {
 }
 
 // Homes are the homes of the fragments of a stripe.
-func (b *Book) Homes(stripe uint16) ([Fragments]Home, error) {
+func (b *Looks) Homes(stripe uint16) ([Fragments]Home, error) {
 	var homes [Fragments]Home
 	err := faultOf(C.lrc_embed_homes(b.handle, C.uint16_t(stripe), (*C.lrc_homes)(unsafe.Pointer(&homes))))
 	return homes, err
 }
 
 // Lease is the live lease of a fragment.
-func (b *Book) Lease(stripe uint16, fragment uint8) (LeaseRow, error) {
+func (b *Looks) Lease(stripe uint16, fragment uint8) (LeaseRow, error) {
 	var lease LeaseRow
 	status := C.lrc_embed_lease(b.handle, C.uint16_t(stripe), C.uint8_t(fragment), (*C.lrc_lease)(unsafe.Pointer(&lease)))
 	return lease, faultOf(status)
 }
 
 // Repair is how a fragment is rebuilt, if it needs a lease.
-func (b *Book) Repair(stripe uint16, fragment uint8) (Plan, error) {
+func (b *Looks) Repair(stripe uint16, fragment uint8) (Plan, error) {
 	var plan Plan
 	status := C.lrc_embed_repair(b.handle, C.uint16_t(stripe), C.uint8_t(fragment), (*C.lrc_repair_plan)(unsafe.Pointer(&plan)))
 	return plan, faultOf(status)
 }
 
 // Upgrading is the domain that is upgrading, and whether there is one.
-func (b *Book) Upgrading() (uint8, bool) {
+func (b *Looks) Upgrading() (uint8, bool) {
 	domain := C.uint8_t(0)
 	status := C.lrc_embed_upgrading(b.handle, &domain)
 	return uint8(domain), status == C.LRC_DONE
 }
 
 // Clock is the number of ticks.
-func (b *Book) Clock() uint32 {
+func (b *Looks) Clock() uint32 {
 	clock := C.uint32_t(0)
 	C.lrc_embed_clock(b.handle, &clock)
 	return uint32(clock)
 }
 
 // Stripe is the row of one stripe.
-func (b *Book) Stripe(stripe uint16) (StripeRow, error) {
+func (b *Looks) Stripe(stripe uint16) (StripeRow, error) {
 	var rows [1]StripeRow
 	count := C.size_t(0)
 	err := faultOf(C.lrc_embed_stripes(b.handle, C.uint16_t(stripe), (*C.lrc_stripe)(unsafe.Pointer(&rows[0])), 1, &count))
@@ -164,21 +164,21 @@ func (b *Book) Stripe(stripe uint16) (StripeRow, error) {
 }
 
 // StripeRows are all stripes, in rising order.
-func (b *Book) StripeRows() ([]StripeRow, error) {
+func (b *Looks) StripeRows() ([]StripeRow, error) {
 	rows, count := make([]StripeRow, Stripes), C.size_t(0)
 	err := faultOf(C.lrc_embed_stripes(b.handle, 0, (*C.lrc_stripe)(unsafe.Pointer(&rows[0])), Stripes, &count))
 	return rows[:count], err
 }
 
 // NodeRows are all nodes, in the order of the text.
-func (b *Book) NodeRows() ([]NodeRow, error) {
+func (b *Looks) NodeRows() ([]NodeRow, error) {
 	rows, count := make([]NodeRow, C.LRC_NODES), C.size_t(0)
 	err := faultOf(C.lrc_embed_nodes(b.handle, 0, (*C.lrc_node)(unsafe.Pointer(&rows[0])), C.LRC_NODES, &count))
 	return rows[:count], err
 }
 
 // LeaseRows are all live leases, by stripe and fragment.
-func (b *Book) LeaseRows() ([]LeaseRow, error) {
+func (b *Looks) LeaseRows() ([]LeaseRow, error) {
 	var all []LeaseRow
 	rows := make([]LeaseRow, 256)
 	stripe, fragment := C.uint16_t(0), C.uint8_t(0)
@@ -199,7 +199,7 @@ func (b *Book) LeaseRows() ([]LeaseRow, error) {
 }
 
 // HasLease tells whether a lease lives.
-func (b *Book) HasLease() bool {
+func (b *Looks) HasLease() bool {
 	var row LeaseRow
 	count := C.size_t(0)
 	C.lrc_embed_leases(b.handle, 0, 0, (*C.lrc_lease)(unsafe.Pointer(&row)), 1, &count)
@@ -207,7 +207,7 @@ func (b *Book) HasLease() bool {
 }
 
 // Forecast tells what would become of the stripes if something happened to all these nodes at once, and whether it is safe.
-func (b *Book) Forecast(outage Outage, nodes []uint16) ([]Outlook, bool, error) {
+func (b *Looks) Forecast(outage Outage, nodes []uint16) ([]Outlook, bool, error) {
 	rows, count, isSafe := make([]Outlook, Stripes), C.size_t(0), C.uint8_t(0)
 	first := (*C.uint16_t)(nil)
 	if len(nodes) > 0 {

@@ -30,7 +30,7 @@ func recipeFault(status C.uint32_t) error {
 }
 
 // Recipe tells how the fragment of a live lease is rebuilt from what is not missing now.
-func (b *Book) Recipe(stripe uint16, fragment uint8) (Recipe, error) {
+func (b *Looks) Recipe(stripe uint16, fragment uint8) (Recipe, error) {
 	var recipe Recipe
 	status := C.lrc_embed_recipe(b.handle, C.uint16_t(stripe), C.uint8_t(fragment), (*C.lrc_recipe)(unsafe.Pointer(&recipe)))
 	return recipe, recipeFault(status)
@@ -66,7 +66,7 @@ type Rebuild struct {
 }
 
 // Rebuild is the recipe of the fragment of a live lease; or, with further fragments that are missing too, that of any fragment.
-func (b *Book) Rebuild(stripe uint16, fragment uint8, further []uint8) (Rebuild, error) {
+func (b *Looks) Rebuild(stripe uint16, fragment uint8, further []uint8) (Rebuild, error) {
 	row, err := b.Stripe(stripe)
 	if errors.Is(err, ErrNotFound) {
 		return Rebuild{}, &notFound{"stripe", uint64(stripe)}

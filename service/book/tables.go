@@ -71,7 +71,7 @@ var views = map[string]view{
 func TakesLong(name string) bool { return views[name].isLong && !views[name].isSlow }
 
 // Table is a table of the book as it is.
-func (b *Book) Table(name string) (*Table, error) {
+func (b *Looks) Table(name string) (*Table, error) {
 	of, isThere := views[name]
 	if !isThere {
 		return nil, noTable(name)
@@ -83,7 +83,7 @@ func (b *Book) Table(name string) (*Table, error) {
 func noTable(name string) error { return fmt.Errorf("there is no table %q", name) }
 
 // Show takes what a table is made of. One that would take long is made of a copy of the book, over the nodes of its text.
-func (b *Book) Show(name string, nodes []byte) (TableSnapshot, error) {
+func (b *Looks) Show(name string, nodes []byte) (TableSnapshot, error) {
 	view, isThere := views[name]
 	if !isThere {
 		return nil, noTable(name)
@@ -109,13 +109,13 @@ func (b *Book) Show(name string, nodes []byte) (TableSnapshot, error) {
 
 // Copied takes the image of a book over the nodes of its text. A copy begins in it later, beside calls of the book: but for the
 // history all looks at the copy are those at the book.
-func (b *Book) Copied(nodes []byte) (func() (*Book, error), error) {
+func (b *Looks) Copied(nodes []byte) (func() (*Book, error), error) {
 	image, err := b.Image()
 	return func() (*Book, error) { return OpenImage(nodes, image) }, err
 }
 
 // table is the text of a table.
-func (b *Book) table(of view) ([]byte, error) {
+func (b *Looks) table(of view) ([]byte, error) {
 	return textOf(of.room, func(text *C.uint8_t, room C.size_t, length *C.size_t) C.uint32_t {
 		return C.lrc_embed_show(b.handle, of.number, text, room, length)
 	})
@@ -137,7 +137,7 @@ func textOf(room int, ask func(text *C.uint8_t, room C.size_t, length *C.size_t)
 }
 
 // ShowForecast is the table of an outage of all these nodes at once, and tells whether no stripe is harmed.
-func (b *Book) ShowForecast(outage Outage, selected Selection) (*Table, bool, error) {
+func (b *Looks) ShowForecast(outage Outage, selected Selection) (*Table, bool, error) {
 	nodes, err := b.nodesOf(selected)
 	if err != nil {
 		return nil, false, err
@@ -153,7 +153,7 @@ func (b *Book) ShowForecast(outage Outage, selected Selection) (*Table, bool, er
 }
 
 // ShowStripe is the row of one stripe in the table of stripes. The library writes the whole table alone, so the row is made here.
-func (b *Book) ShowStripe(stripe uint16) (*Table, error) {
+func (b *Looks) ShowStripe(stripe uint16) (*Table, error) {
 	row, err := b.Stripe(stripe)
 	if err != nil {
 		return nil, err
@@ -231,7 +231,7 @@ type Selection struct {
 	Upgrades []uint8
 }
 
-func (b *Book) nodesOf(selected Selection) ([]uint16, error) {
+func (b *Looks) nodesOf(selected Selection) ([]uint16, error) {
 	rows, err := b.NodeRows()
 	if err != nil {
 		return nil, err
