@@ -92,6 +92,14 @@ func (b *Book) CallAt(made uint64, session uint8, command Command) (Entry, error
 	return entry, err
 }
 
+// Call makes one command and returns its entry. Each viewer that follows after it makes the call too. IsFull may also tell that the feed
+// has no room: unpublish the book and publish it again.
+func (p *Published) Call(session uint8, command Command) (Entry, error) {
+	var entry Entry
+	err := faultOf(C.call_published(p.pair, C.uint8_t(session), command.c(), entry.c()))
+	return entry, err
+}
+
 // Peek returns the reply that a call would get now.
 func (b *Looks) Peek(session uint8, command Command) (Reply, error) {
 	var reply Reply

@@ -48,8 +48,9 @@ func (l Level) RankForPeople() int {
 // LeaseTicks is the number of ticks that a lease lives.
 const LeaseTicks = 3
 
-// A FragmentID names a fragment of a stripe.
+// A FragmentID names a fragment of a stripe, and has the layout of lrc_fragment.
 type FragmentID struct {
 	Stripe uint16
 	Number uint8
+	_      uint8
 }

@@ -6,7 +6,8 @@
 // it CGO_CFLAGS names the folder of lrc_embed.h and CGO_LDFLAGS the library, which service/build sets both.
 //
 // docs/EMBEDDING.md says how a store keeps its lock and its log around a book: the Entry of each Call goes to the log before the
-// store acts on its reply, and Replay makes them again after a restart.
+// store acts on its reply, and Replay makes them again after a restart. A Book has Looks; a Published has them too, and Viewers, which
+// look on other goroutines without the store's lock.
 package book
 
 /*
@@ -58,11 +59,15 @@ const (
 	_ = uint(C.sizeof_lrc_repair_plan - unsafe.Sizeof(Plan{}))
 	_ = uint(unsafe.Sizeof(Recipe{}) - C.sizeof_lrc_recipe)
 	_ = uint(C.sizeof_lrc_recipe - unsafe.Sizeof(Recipe{}))
+	_ = uint(unsafe.Sizeof(RiskRow{}) - C.sizeof_lrc_risk)
+	_ = uint(C.sizeof_lrc_risk - unsafe.Sizeof(RiskRow{}))
+	_ = uint(unsafe.Sizeof(FragmentID{}) - C.sizeof_lrc_fragment)
+	_ = uint(C.sizeof_lrc_fragment - unsafe.Sizeof(FragmentID{}))
 	_ = uint(unsafe.Sizeof(Change{}) - C.sizeof_lrc_change)
 	_ = uint(C.sizeof_lrc_change - unsafe.Sizeof(Change{}))
 )
 
-// Looks read a book and change nothing.
+// Looks read a book and change nothing. A Book, a Published and a Viewer have them, until they are closed.
 type Looks struct {
 	handle *C.lrc_handle // in C memory: the library keeps a pointer of its own in it
 }

@@ -55,6 +55,13 @@ type StripeRow struct {
 	Level   Level
 }
 
+// A RiskRow has the layout of lrc_risk.
+type RiskRow struct {
+	Stripe uint16
+	_      [2]uint8
+	Level  Level
+}
+
 // A NodeMode has the numbers of lrc_mode_kind.
 type NodeMode uint8
 
@@ -136,6 +143,69 @@ func (b *Looks) Repair(stripe uint16, fragment uint8) (Plan, error) {
 	var plan Plan
 	status := C.lrc_embed_repair(b.handle, C.uint16_t(stripe), C.uint8_t(fragment), (*C.lrc_repair_plan)(unsafe.Pointer(&plan)))
 	return plan, faultOf(status)
+}
+
+// Level is the level of a stripe.
+func (b *Looks) Level(stripe uint16) (Level, error) {
+	var level Level
+	err := faultOf(C.lrc_embed_level(b.handle, C.uint16_t(stripe), (*C.lrc_level)(unsafe.Pointer(&level))))
+	return level, err
+}
+
+// Missing are the fragments of a stripe without a home, or with one on a node that is not online: fragment f is bit f.
+func (b *Looks) Missing(stripe uint16) (uint16, error) {
+	missing := C.uint16_t(0)
+	err := faultOf(C.lrc_embed_missing(b.handle, C.uint16_t(stripe), &missing))
+	return uint16(missing), err
+}
+
+// Code is the code of a stripe.
+func (b *Looks) Code(stripe uint16) (Code, error) {
+	code := C.uint8_t(0)
+	err := faultOf(C.lrc_embed_code(b.handle, C.uint16_t(stripe), &code))
+	return Code(code), err
+}
+
+// Risk are the stripes that are not whole, in the order of repair.
+func (b *Looks) Risk() ([]RiskRow, error) {
+	rows, count := make([]RiskRow, Stripes), C.size_t(0)
+	err := faultOf(C.lrc_embed_risk(b.handle, (*C.lrc_risk)(unsafe.Pointer(&rows[0])), Stripes, &count))
+	return rows[:count], err
+}
+
+// FirstRisk is the first of these stripes; ErrNotFound if all are whole.
+func (b *Looks) FirstRisk() (RiskRow, error) {
+	var row RiskRow
+	err := faultOf(C.lrc_embed_first_risk(b.handle, (*C.lrc_risk)(unsafe.Pointer(&row))))
+	return row, err
+}
+
+// Load is the number of homes and of targets of leases on a node.
+func (b *Looks) Load(node uint16) (uint32, error) {
+	load := C.uint32_t(0)
+	err := faultOf(C.lrc_embed_load(b.handle, C.uint16_t(node), &load))
+	return uint32(load), err
+}
+
+// Mode is the mode of a node, and whether it is online.
+func (b *Looks) Mode(node uint16) (mode NodeMode, isOnline bool, err error) {
+	var found C.lrc_mode
+	err = faultOf(C.lrc_embed_mode(b.handle, C.uint16_t(node), &found))
+	return NodeMode(found.mode), found.is_online == 1, err
+}
+
+// IsDown tells whether a node is down. One that is not may be offline all the same.
+func (b *Looks) IsDown(node uint16) (bool, error) {
+	is := C.uint8_t(0)
+	err := faultOf(C.lrc_embed_is_down(b.handle, C.uint16_t(node), &is))
+	return is == 1, err
+}
+
+// HomesOn are the fragments with a home on a node, by stripe and fragment.
+func (b *Looks) HomesOn(node uint16) ([]FragmentID, error) {
+	rows, count := make([]FragmentID, C.LRC_SLOTS), C.size_t(0) // (a node has no more)
+	err := faultOf(C.lrc_embed_homes_on(b.handle, C.uint16_t(node), 0, 0, (*C.lrc_fragment)(unsafe.Pointer(&rows[0])), C.LRC_SLOTS, &count))
+	return rows[:count], err
 }
 
 // Upgrading is the domain that is upgrading, and whether there is one.
