@@ -96,22 +96,28 @@ func TestRepliesAreWrittenAsRunPrintsThem(t *testing.T) {
 		if err != nil || have != want || reply.String() != want {
 			t.Errorf("%q, and not %q: %v", have, want, err)
 		}
-		said, err := reply.JSON()
-		if err != nil {
-			t.Error(want, err)
-		}
-		text, err := json.Marshal(said)
-		words := strings.Fields(want)
-		if err != nil || !strings.HasPrefix(string(text), fmt.Sprintf(`{"reply":%q,"kind":%q`, want, words[0])) {
-			t.Errorf("%s %v", text, err)
-		}
-		detail := ""
-		if words[0] == "refused" && len(words) == 3 {
-			detail = fmt.Sprintf(`,"detail":%s}`, words[2])
-		}
-		if has := strings.Contains(string(text), `"detail"`); has != (detail != "") || !strings.HasSuffix(string(text), detail) {
-			t.Errorf("%s: the detail is not %q", text, detail)
-		}
+		checkReplyJSON(t, reply, want)
+	}
+}
+
+// checkReplyJSON finds the line of a reply in its JSON, its first word as the kind, and the detail if the line has one.
+func checkReplyJSON(t *testing.T, reply Reply, line string) {
+	t.Helper()
+	said, err := reply.JSON()
+	if err != nil {
+		t.Error(line, err)
+	}
+	text, err := json.Marshal(said)
+	words := strings.Fields(line)
+	if err != nil || !strings.HasPrefix(string(text), fmt.Sprintf(`{"reply":%q,"kind":%q`, line, words[0])) {
+		t.Errorf("%s %v", text, err)
+	}
+	detail := ""
+	if words[0] == "refused" && len(words) == 3 {
+		detail = fmt.Sprintf(`,"detail":%s}`, words[2])
+	}
+	if has := strings.Contains(string(text), `"detail"`); has != (detail != "") || !strings.HasSuffix(string(text), detail) {
+		t.Errorf("%s: the detail is not %q", text, detail)
 	}
 }
 

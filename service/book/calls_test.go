@@ -63,6 +63,41 @@ func allHeld(t *testing.T, b *Book, stripes uint16) map[FragmentID]held {
 	return found
 }
 
+// differing are the changes from what was held to what is, by stripe and fragment.
+func differing(before, now map[FragmentID]held, stripes uint16) []Change {
+	var changes []Change
+	for stripe := uint16(0); stripe < stripes; stripe++ {
+		for f := uint8(0); f < Fragments; f++ {
+			of := FragmentID{Stripe: stripe, Number: f}
+			if was, is := before[of], now[of]; was != is {
+				changes = append(changes, Change{Stripe: stripe, Fragment: f, WasLeased: was.isLeased, IsLeased: is.isLeased,
+					HomeBefore: was.home, HomeAfter: is.home, LeaseBefore: was.lease, LeaseAfter: is.lease})
+			}
+		}
+	}
+	return changes
+}
+
+// busy is a call at a store of many stripes: these are placed first, and then leases are granted and reported among other calls.
+func busy(t *testing.T, r *rand.Rand, b *Book, i int, stripes uint16) (uint8, Command) {
+	t.Helper()
+	leases, err := b.LeaseRows()
+	if err != nil {
+		t.Fatal(err)
+	}
+	command := drawn(r)
+	switch command.Stripe = uint16(r.Intn(int(stripes))); {
+	case i < 60:
+		command.Kind = []Kind{Place, Place6}[i%2]
+	case i%3 == 0:
+		command.Kind = Next
+	case i%9 == 1 && len(leases) > 0:
+		lease := leases[r.Intn(len(leases))]
+		return lease.Holder, Command{Kind: Done, Stripe: lease.Stripe, Fragment: lease.Fragment, Epoch: lease.Epoch}
+	}
+	return uint8(1 + r.Intn(3)), command
+}
+
 // What a call changed is what looks before and after it tell: each fragment that differs, in order, and no other.
 func TestChangesAreWhatDiffers(t *testing.T) {
 	const stripes = 40
@@ -71,19 +106,7 @@ func TestChangesAreWhatDiffers(t *testing.T) {
 		r, b, plain := rand.New(rand.NewSource(seed)), begun(t, wide()), begun(t, wide())
 		now := allHeld(t, b, stripes)
 		for i := 0; i < 400; i++ {
-			command := drawn(r)
-			if command.Stripe = uint16(r.Intn(stripes)); i < 60 { // (so that nodes have many homes)
-				command.Kind = []Kind{Place, Place6}[i%2]
-			} else if i%3 == 0 {
-				command.Kind = Next
-			}
-			session := uint8(1 + r.Intn(3))
-			if leases, err := b.LeaseRows(); err != nil {
-				t.Fatal(err)
-			} else if i%9 == 1 && len(leases) > 0 {
-				lease := leases[r.Intn(len(leases))]
-				session, command = lease.Holder, Command{Kind: Done, Stripe: lease.Stripe, Fragment: lease.Fragment, Epoch: lease.Epoch}
-			}
+			session, command := busy(t, r, b, i, stripes)
 			entry, changes, err := b.CallChanges(session, command)
 			if err != nil {
 				t.Fatal(err)
@@ -93,16 +116,7 @@ func TestChangesAreWhatDiffers(t *testing.T) {
 			}
 			before := now
 			now = allHeld(t, b, stripes)
-			var want []Change
-			for stripe := uint16(0); stripe < stripes; stripe++ {
-				for f := uint8(0); f < Fragments; f++ {
-					of := FragmentID{Stripe: stripe, Number: f}
-					if was, is := before[of], now[of]; was != is {
-						want = append(want, Change{Stripe: stripe, Fragment: f, WasLeased: was.isLeased, IsLeased: is.isLeased,
-							HomeBefore: was.home, HomeAfter: is.home, LeaseBefore: was.lease, LeaseAfter: is.lease})
-					}
-				}
-			}
+			want := differing(before, now, stripes)
 			if len(changes) != len(want) || len(want) > 0 && !reflect.DeepEqual(changes, want) {
 				t.Fatalf("%v: %+v, and not %+v", command, changes, want)
 			}
@@ -174,7 +188,7 @@ func TestACallIsMadeAtItsPlaceAlone(t *testing.T) {
 
 func TestAPeekIsTheEntryOfTheCall(t *testing.T) {
 	r, b := rand.New(rand.NewSource(3)), open(t, "place 1", "place6 2", "fail 3")
-	for i := 0; i < 200; i++ {
+	for i := 0; i < 60; i++ {
 		session, command, before := uint8(1+r.Intn(8)), drawn(r), image(t, b)
 		peeked, err := b.PeekEntry(session, command)
 		if err != nil || image(t, b) != before {

@@ -78,54 +78,68 @@ func follows(v *Viewer, first string, calls []made, begin uint64) (looks int, er
 	return looks, nil
 }
 
-// Several callers take turns, and viewers of several times look beside them.
+// A crowd is a published book with callers that take turns and viewers that look beside them.
+type crowd struct {
+	t       *testing.T
+	p       *Published
+	mine    *Viewer // of the callers
+	first   string
+	calls   []made
+	turn    sync.Mutex
+	next    int
+	viewers sync.WaitGroup
+}
+
+// look makes a viewer that follows on a goroutine of its own, and closes there. Who asks has the turn.
+func (c *crowd) look() {
+	v, err := c.p.View(twenty())
+	if err != nil {
+		c.t.Error(err)
+		return
+	}
+	c.viewers.Add(1)
+	go func() {
+		defer c.viewers.Done()
+		defer v.Close()
+		if looks, err := follows(v, c.first, c.calls, 2); err != nil || looks == 0 {
+			c.t.Errorf("%d places: %v", looks, err)
+		}
+	}()
+}
+
+// call makes the next call, unless none is left. Once it returns, it is in the feed.
+func (c *crowd) call() bool {
+	c.turn.Lock()
+	defer c.turn.Unlock()
+	if c.next == len(c.calls) {
+		return false
+	}
+	call := c.calls[c.next]
+	c.next++
+	if entry, err := c.p.Call(call.session, call.entry.Command); err != nil || entry != call.entry {
+		c.t.Errorf("%+v, and not %+v: %v", entry, call.entry, err)
+	}
+	if place, isPublished, err := c.mine.Follow(); err != nil || !isPublished || place != uint64(c.next)+2 || place != c.p.Made() {
+		c.t.Errorf("a call returned before it was in the feed: %d of %d, %v", place, c.p.Made(), err)
+	}
+	if c.next%100 == 0 {
+		c.look()
+	}
+	return true
+}
+
 func TestViewersLookBesideCalls(t *testing.T) {
 	begin := []string{"place 1", "fail 3"}
-	plain := open(t, begin...)
-	first := image(t, plain)
-	calls := played(t, plain, 400)
-	p := published(t, begin...)
-	next, mine := 0, viewer(t, p)
-	var turn sync.Mutex
-	var callers, viewers sync.WaitGroup
-	look := func() {
-		v, err := p.View(twenty())
-		if err != nil {
-			t.Error(err)
-			return
-		}
-		viewers.Add(1)
-		go func() {
-			defer viewers.Done()
-			defer v.Close()
-			if looks, err := follows(v, first, calls, 2); err != nil || looks == 0 {
-				t.Errorf("%d places: %v", looks, err)
-			}
-		}()
-	}
-	look()
+	plain, p := open(t, begin...), published(t, begin...)
+	c := &crowd{t: t, p: p, mine: viewer(t, p), first: image(t, plain)}
+	c.calls = played(t, plain, 250)
+	c.look()
+	var callers sync.WaitGroup
 	for i := 0; i < 3; i++ {
 		callers.Add(1)
 		go func() {
 			defer callers.Done()
-			for {
-				turn.Lock()
-				if next == len(calls) {
-					turn.Unlock()
-					return
-				}
-				call := calls[next]
-				next++
-				if entry, err := p.Call(call.session, call.entry.Command); err != nil || entry != call.entry {
-					t.Errorf("%+v, and not %+v: %v", entry, call.entry, err)
-				}
-				if place, isPublished, err := mine.Follow(); err != nil || !isPublished || place != uint64(next)+2 || place != p.Made() {
-					t.Errorf("a call returned before it was in the feed: %d of %d, %v", place, p.Made(), err)
-				}
-				if next%100 == 0 {
-					look()
-				}
-				turn.Unlock()
+			for c.call() {
 			}
 		}()
 	}
@@ -135,8 +149,8 @@ func TestViewersLookBesideCalls(t *testing.T) {
 		t.Fatal(err)
 	}
 	defer b.Close()
-	viewers.Wait()
-	if image(t, b) != image(t, plain) || image(t, mine) != image(t, plain) {
+	c.viewers.Wait()
+	if image(t, b) != image(t, plain) || image(t, c.mine) != image(t, plain) {
 		t.Error("the book that comes back, or the viewer, is not the one that made these calls")
 	}
 	if _, err := b.Call(1, Command{Kind: Tick}); err != nil || b.Made() != plain.Made()+1 {
