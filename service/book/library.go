@@ -248,7 +248,7 @@ func (b *Looks) Entries(place uint64, rows []Entry) (int, error) {
 	return int(count), faultOf(status)
 }
 
-// IsFull tells whether an error says that a number of the book is at its end.
+// IsFull tells whether an error says that a number of the book is at its end, or that its history or its feed has no room.
 func IsFull(err error) bool { return is(err, C.LRC_FULL) }
 
 // IsOutOfRange tells whether an error says that a number is out of its range.
