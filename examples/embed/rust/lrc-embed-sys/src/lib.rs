@@ -888,6 +888,10 @@ extern "C" {
     /// The line that `lrcman run` prints of the entry at an index, from 0: its number in the store, its reply, and LF; at most 220
     /// bytes. IS_CLOSED, UNKNOWN, OUT_OF_MEMORY, or FULL if lrc_embed_before is above 9,223,372,036,854,775,808.
     pub fn lrc_embed_reply_line(handle: *mut lrc_handle, index: usize, text: *mut u8, room: usize, length: *mut usize) -> u32;
+    /// The text of a reply, which is its line without the number of its entry and without LF: at most 198 bytes. It takes no
+    /// handle, so a reply that a log or a client keeps has its text without a book. OUT_OF_RANGE if the library writes no such
+    /// reply: a number is out of range, or a field that the kind does not use is not 0; or OUT_OF_MEMORY.
+    pub fn lrc_embed_reply_text(reply: *const lrc_reply, text: *mut u8, room: usize, length: *mut usize) -> u32;
     /// The line of a command in a script, without LF: at most 26 bytes. OUT_OF_RANGE if it is no command, or OUT_OF_MEMORY.
     pub fn lrc_embed_command_line(command: *const lrc_command, text: *mut u8, room: usize, length: *mut usize) -> u32;
     /// The command of a line of a script, which is given without its LF. DONE; UNKNOWN if the line is empty or a comment; or
