@@ -5,7 +5,7 @@ Usage: late_worker.py [LIBRARY], where LIBRARY is the liblrc_embed.so that `buil
 import sys
 
 sys.dont_write_bytecode = True
-from lrc_embed import Book, Command, CommandKind, Entry, Fault, OtherVersion, ReplyKind, load
+from lrc_embed import Book, Command, CommandKind, Entry, Fault, OtherVersion, ReplyKind, load, reply_text
 
 
 def main(path=None):
@@ -23,10 +23,10 @@ def main(path=None):
     with Book(library, nodes) as book:
         print("script 1")
         for command in script:
-            reply = book.call(1, command)
+            entry = book.call_entry(1, command)
             # A store writes the bytes of the entry to its own log before it acts on the reply.
-            log.append(bytes(book.entry(book.count() - 1)))
-            print(book.count(), reply)
+            log.append(bytes(entry))
+            print(book.count(), reply_text(library, entry.reply))
         # Nothing is left to repair, and a worker that asks by a peek adds no entry.
         assert book.peek(1, Command(CommandKind.NEXT)).kind == ReplyKind.IDLE
         assert book.count() == len(log)

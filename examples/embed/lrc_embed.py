@@ -70,16 +70,6 @@ class View(IntEnum):
     STATUS, STRIPES, NODES, LEASES, WORK, FRAGMENTS, DOMAINS_FAULT, DOMAINS_UPGRADE, HEALTH, CAPACITY = range(1, 11)
 
 
-# The refusals that have a detail.
-DETAILED = {Refusal.NO_LAWFUL_NODE, Refusal.UPGRADE_RUNNING, Refusal.WOULD_LOSE, Refusal.ALREADY_LEASED,
-            Refusal.NOT_HOLDER, Refusal.TARGET_OFFLINE, Refusal.NOT_EMPTY}
-
-
-# The number of seats of a reply, and of sources of a repair.
-SEATS = {ReplyKind.PLACED: FRAGMENTS, ReplyKind.PLACED6: NARROW_FRAGMENTS}
-SOURCES = {Repair.LOCAL: 6, Repair.LOCAL3: 3}
-
-
 # The least and the greatest number of each name that is passed.
 RANGES = {"session": (1, SESSIONS), "kind": (1, len(CommandKind)), "stripe": (0, STRIPES - 1),
           "fragment": (0, FRAGMENTS - 1), "node": (0, 2**16 - 1), "domain": (0, 2**8 - 1), "epoch": (0, 2**32 - 1),
@@ -145,9 +135,6 @@ class Lease(ctypes.Structure):
     _fields_ = [("stripe", c_uint16), ("fragment", c_uint8), ("holder", c_uint8), ("target", Seat),
                 ("epoch", c_uint32), ("expiry", c_uint32)]
 
-    def __str__(self):
-        return f"{self.stripe} {self.fragment} {self.target} epoch {self.epoch}"
-
 
 class RepairPlan(ctypes.Structure):
     _fields_ = [("repair", c_uint8), ("sources", c_uint8 * 6), ("reserved", c_uint8)]
@@ -157,21 +144,6 @@ class Reply(ctypes.Structure):
     _fields_ = [("kind", c_uint8), ("refusal", c_uint8), ("repair", c_uint8), ("sources", c_uint8 * 6),
                 ("reserved", c_uint8 * 3), ("detail", c_uint32), ("clock", c_uint32), ("ended", c_uint32),
                 ("reserved_number", c_uint32), ("lease", Lease), ("seats", Seat * FRAGMENTS)]
-
-    def __str__(self):
-        """What `lrcman run` prints of the reply."""
-        kind = ReplyKind(self.kind)
-        words = [kind.name.lower().rstrip("6")]  # (the number of seats shows the code)
-        if kind in SEATS:
-            words += self.seats[:SEATS[kind]]
-        elif kind is ReplyKind.GRANTED:
-            repair = Repair(self.repair)
-            words += [self.lease, repair.name.lower().rstrip("3"), *self.sources[:SOURCES.get(repair, 0)]]
-        elif kind is ReplyKind.REFUSED:
-            words += [self.refusal] + ([self.detail] if self.refusal in DETAILED else [])
-        elif kind is ReplyKind.TICKED:
-            words += [self.clock, self.ended]
-        return " ".join(map(str, words))
 
 
 class Entry(Checked):
@@ -269,6 +241,14 @@ def text_by(write, room=256):
         room = length.value
 
 
+def text_done(name, write, room=256):
+    """The text that a call writes, which has to be done."""
+    status, text = text_by(write, room)
+    if status != Status.DONE:
+        raise Fault(name, status)
+    return text
+
+
 # The words for numbers, and the type of the number of each.
 NAMES = {"status_name": c_uint32, "reply_name": c_uint8, "refusal_name": c_uint8, "level_name": c_uint8, "mode_name": c_uint8,
          "code_name": c_uint8, "repair_name": c_uint8, "command_name": c_uint8, "line_words": c_uint32, "cause_words": c_uint32, "nodes_words": c_uint32}
@@ -308,10 +288,12 @@ def read_command(library, line):
 
 def command_line(library, command):
     """The line of a command in a script, without its end."""
-    status, line = text_by(lambda *to: library.lrc_embed_command_line(ctypes.byref(command), *to))
-    if status != Status.DONE:
-        raise Fault("command_line", status)
-    return line
+    return text_done("command_line", lambda *to: library.lrc_embed_command_line(ctypes.byref(command), *to))
+
+
+def reply_text(library, reply):
+    """What `lrcman run` prints of a reply."""
+    return text_done("reply_text", lambda *to: library.lrc_embed_reply_text(ctypes.byref(reply), *to))
 
 
 def recipe_of(library, code, missing, fragment):
@@ -597,10 +579,7 @@ class Book:
 
     def text(self, name, *given, more=(), room=65536):
         """The text that a call writes."""
-        status, text = text_by(lambda *to: self.status_of(name, *given, *to, *more), room)
-        if status != Status.DONE:
-            raise Fault(name, status)
-        return text
+        return text_done(name, lambda *to: self.status_of(name, *given, *to, *more), room)
 
     def show(self, view):
         """A table of the book, as `lrcman show` prints it."""

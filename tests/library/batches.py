@@ -41,7 +41,7 @@ def make_group(book, single, store, drawn, entries, stop):
     expect("status, and how many calls are made", called(book, entries), wanted)
     for (session, line), entry in zip(drawn[:stop], entries):
         expect("entry of a call in a group", bytes(entry), bytes(single.call_entry(session, library.command_of(line))))
-        expect("reply in a group", str(entry.reply), store.call(session, line))
+        expect("reply in a group", library.text_of(entry.reply), store.call(session, line))
     expect("what is behind the calls that are made", [bytes(entry) for entry in entries[stop:]], asked[stop:])
 
 

@@ -22,7 +22,7 @@ import time
 
 from tests import harness
 from tests.harness import CC, EXAMPLES, TESTS, TOP
-from tests.library.library import command_of, lrc_embed
+from tests.library.library import command_of, lrc_embed, text_of
 from tests.model import field, recipe_rules
 from tests.model.rules import NARROW, WIDE, is_recoverable, members
 
@@ -163,7 +163,7 @@ class Worker:
         given = [self.disk[home] if fragment in recipe.sources() else None for fragment, home in enumerate(homes)]
         self.disk[str(lease.target)] = lrc_embed.rebuild(self.library, recipe, given)
         reply = self.call(f"done {lease.stripe} {lease.fragment} {lease.epoch}")
-        self.count.check(f"the report of {lease}: {reply}", str(reply) == "ended")
+        self.count.check(f"the report of fragment {lease.fragment}: {text_of(reply)}", reply.kind == lrc_embed.ReplyKind.ENDED)
 
     def work(self):
         """Takes leases until none is granted; returns the kinds of repair."""
@@ -202,7 +202,7 @@ def repair_damaged(count, worker, stripe, fragment):
     worker.disk[home] = bytes(len(worker.disk[home]))
     replies = [worker.call(line) for line in (f"drain {node}", f"lease {stripe} {fragment}", f"undrain {node}")]
     lease = replies[1].lease
-    count.check(f"the lease of a damaged fragment: {replies[1]}", replies[1].repair == lrc_embed.Repair.MOVE)
+    count.check(f"the lease of a damaged fragment: {text_of(replies[1])}", replies[1].repair == lrc_embed.Repair.MOVE)
     count.check("it would be copied", worker.book.recipe(stripe, fragment).sources() == {fragment: 1})
     missing = worker.book.missing(stripe).value | 1 << fragment
     worker.rebuild(lease, lrc_embed.recipe_of(worker.library, CODES[worker.stripes[stripe][0]], missing, fragment))

@@ -184,7 +184,8 @@ def make(book, store, session, line, count, looks=False):
     right = store.call(session, line)
     if rows is not None:
         expect("what the call changed", [change_in_book(row) for row in rows], changes_in_model(was, fragments_in_model(store)))
-    expect("reply", str(found), right)
+    expect("reply", library.text_of(found), right)
+    expect("text of the reply", lrc_embed.reply_text(book.library, found), right)
     expect("reply that a peek reports", bytes(peeked), bytes(found))
     compare_code(found, right)
     # (only a look has the expiry of a lease: in replies it stays 0, as in earlier logs)

@@ -35,7 +35,7 @@ from concurrent.futures import ThreadPoolExecutor
 from tests import harness
 from tests.harness import CC, EXAMPLES, TESTS, TOP
 from tests.library import checked, images, module, texts
-from tests.library.library import code_word, command_of, load_rows, lrc_embed, of_version, risk_rows
+from tests.library.library import code_word, command_of, load_rows, lrc_embed, of_version, risk_rows, text_of
 from tests.model import rules
 
 CRATES = ["lrc_records", "lrc_walks", "lrc_changes", "lrc_embed"]  # what the header declares: the structs, the outages, and the functions
@@ -43,7 +43,7 @@ EMBED, INCLUDE = f"{EXAMPLES}/embed", f"{TOP}/crates/lrc_embed/include"
 CXX = os.environ.get("CXX", "c++")
 STRICT = ["-Wall", "-Wextra", "-Werror"]
 # The version of the header, and a sum of what it declares.
-INTERFACE = "7", "28097b63c32d"
+INTERFACE = "7", "89eb34acbf93"
 COUNTED = ["-Wl,--wrap=malloc,--wrap=realloc,--wrap=free"]
 
 
@@ -471,16 +471,21 @@ def test_images(count, name, library, topology, log, image):
 
 
 def test_bundle(count, library, name, bundle):
-    """Each reply, and then both tables, the codes, the clock and the live leases are those of the rules."""
+    """Each reply, and then both tables, the codes, the clock and the live leases are those of the rules. Returns which kinds of
+    replies, repairs and refusals came."""
     nodes, scripts = harness.parts_of(bundle)
     topology = harness.split(bundle)[0].decode()
-    store, wrong = rules.Store(nodes), []
+    store, wrong, met = rules.Store(nodes), [], set()
     with lrc_embed.Book(library, topology) as book:
         for session, line in ((i + 1, scripts[i][n]) for i, n in harness.in_turn(scripts)):
-            peeked = str(book.peek(session, command_of(line)))
-            found, right = str(book.call(session, command_of(line))), store.call(session, line)
+            peeked = text_of(book.peek(session, command_of(line)))
+            reply, right = book.call(session, command_of(line)), store.call(session, line)
+            found = text_of(reply)
             wrong += [f"peek of {line}: {peeked}, and not {right}"] if peeked != right else []
             wrong += [f"{line}: {found}, and not {right}"] if found != right else []
+            text = lrc_embed.reply_text(library, reply)
+            wrong += [f"the text of {right}: {text}"] if text != right else []
+            met.add((reply.kind, reply.repair, reply.refusal))
         count.check(f"{name}: {wrong}", not wrong)
         count.check(f"{name}: risk", list(risk_rows(book)) == list(store.risk_rows()))
         count.check(f"{name}: load", list(load_rows(book, nodes)) == list(store.load_rows()))
@@ -494,13 +499,17 @@ def test_bundle(count, library, name, bundle):
         log, image = [book.entry(index) for index in range(book.count())], book.image()
     test_replays(count, name, library, topology, log)
     test_images(count, name, library, topology, log, image)
+    return met
 
 
 def test_bundles(count, library):
-    library = ctypes.CDLL(library)
+    library, met = ctypes.CDLL(library), set()
     for folder in ("", "several"):
         for name, bundle in harness.bundles_in(folder):
-            test_bundle(count, library, name, bundle)
+            met |= test_bundle(count, library, name, bundle)
+    kinds = {(kind, 0, 0) for kind in (1, 2, 4, 5, 6, 8, 9)} | {(3, repair, 0) for repair in range(1, 5)}
+    lacked = (kinds | {(7, 0, refusal) for refusal in range(101, 118)}) - met
+    count.check(f"replies that no bundle gets: {lacked}", not lacked)
 
 
 # Each function with each status.

@@ -4,7 +4,7 @@ import re
 
 from tests import harness
 from tests.harness import TOP, Node
-from tests.library.library import command_of
+from tests.library.library import command_of, text_of
 # (which tests/library/library.py has loaded)
 from lrc_embed import FRAGMENTS, IMAGE_MOST, NODES, STRIPES, Book, Cause, Command, CommandKind, Fault, ModeKind, Status
 
@@ -47,7 +47,7 @@ def test_takeover(count, library):
     with Book(library, harness.topology_of(TWENTY), image=found.replace("2 0:1 10:1", "2 0:1 -")) as book:
         level = book.level(2)
         count.check("images: a stripe without one home", (level.kind, level.margin) == (2, 2))
-        reply = str(book.call(1, command_of("next")))
+        reply = text_of(book.call(1, command_of("next")))
         count.check(f"images: its repair: {reply}", reply == "granted 2 1 17:0 epoch 1 local 0 2 3 4 5 12")
         book.call(1, command_of("done 2 1 1"))
         count.check("images: a store that was taken over", book.image() == repaired)

@@ -38,6 +38,33 @@ def of_version(count, room, version):
     return Other(shared, folder, ["-Wl,--wrap=lrc_embed_version", f"{folder}/wrapped.o"])
 
 
+# How many seats a reply has, and how many sources a repair; and the refusals with a detail, after docs/FORMATS.md.
+SEATS = {lrc_embed.ReplyKind.PLACED: 16, lrc_embed.ReplyKind.PLACED6: 10}
+SOURCES = {lrc_embed.Repair.LOCAL: 6, lrc_embed.Repair.LOCAL3: 3}
+DETAILED = {103, 107, 109, 110, 114, 115, 117}
+
+
+def plan_words(repair, sources):
+    """How a fragment is rebuilt, as a reply writes it."""
+    repair = lrc_embed.Repair(repair)
+    return [repair.name.lower().rstrip("3"), *sources[:SOURCES.get(repair, 0)]]
+
+
+def text_of(reply):
+    """What `lrcman run` prints of a reply, by its fields."""
+    kind, lease = lrc_embed.ReplyKind(reply.kind), reply.lease
+    words = [kind.name.lower().rstrip("6")]  # (the number of seats shows the code)
+    if kind in SEATS:
+        words += reply.seats[:SEATS[kind]]
+    elif kind is kind.GRANTED:
+        words += [lease.stripe, lease.fragment, lease.target, "epoch", lease.epoch, *plan_words(reply.repair, reply.sources)]
+    elif kind is kind.REFUSED:
+        words += [reply.refusal, *([reply.detail] if reply.refusal in DETAILED else [])]
+    elif kind is kind.TICKED:
+        words += [reply.clock, reply.ended]
+    return " ".join(map(str, words))
+
+
 def code_word(code):
     """The name of a code that a book reports."""
     return lrc_embed.Code(code.value).name.lower()

@@ -8,7 +8,7 @@ from collections import Counter
 from itertools import islice
 
 from tests.harness import nodes_in_order, topology_of
-from tests.library.library import command_of
+from tests.library.library import command_of, text_of
 # (which tests/library/library.py has loaded)
 import lrc_embed
 from lrc_embed import (RULES_VERSION, VERSION, Book, Cause, Code, Command, CommandKind, Entry, Fault, ModeKind, OtherVersion,
@@ -303,7 +303,7 @@ def test_calls(count, library):
         unset = Command(CommandKind.TICK)
         ctypes.memset(ctypes.addressof(unset), 0, 1)  # (no command has kind 0)
         entries, status = book.calls([(2, commands[0]), (2, commands[3]), (2, unset), (2, commands[0])])
-        made = [str(entry.reply) for entry in entries]
+        made = [text_of(entry.reply) for entry in entries]
         count.check(f"the module: a group that stops: {status}, {made}",
                     status == Status.OUT_OF_RANGE and made == ["refused 102", "idle"] and book.count() == len(SCRIPT) + 2)
         count.check("the module: a group of none", book.calls([]) == ([], Status.DONE))

@@ -1,7 +1,9 @@
-"""The texts of the library: lines of commands, read and written, words for numbers, and tables of a book beside the model.
+"""The texts of the library: lines of commands, read and written, words for numbers, texts of replies, and tables of a book beside
+the model.
 
 What a line has to be is written here once more, after docs/RULES.md and docs/FORMATS.md. Tables are those of
 tests/model/shown.py."""
+import ctypes
 import random
 import re
 
@@ -124,8 +126,102 @@ def test_words(count, shared):
         count.check(f"texts: {table}: {found}", {number: it for number, it in found.items() if it} == right)
 
 
+# Replies: of each kind those with all numbers at their least and at their greatest, and the words that docs/FORMATS.md asks for.
+
+DETAILS = {103: (0, 15), 107: (0, 255), 109: (0, 4095), 110: (0, 2**32 - 1), 114: (1, 8), 115: (0, 65535), 117: (0, 2**32 - 1)}
+REPAIRS = {"local": (1, 6), "global": (2, 0), "move": (3, 0), "local ": (4, 3)}
+FILLED = b"\xa5"
+
+
+def reply_of(kind, **fields):
+    reply = lrc_embed.Reply(kind=kind)
+    for name, value in fields.items():
+        setattr(reply, name, value)
+    return reply
+
+
+def granted(repair, stripe, fragment, holder, seat, epoch):
+    """A grant, and its words; each of its sources is the fragment too."""
+    number, sources = REPAIRS[repair]
+    lease = lrc_embed.Lease(stripe, fragment, holder, seat, epoch)
+    words = ["granted", stripe, fragment, f"{seat.node}:{seat.slot}", "epoch", epoch, repair.strip(), *[fragment] * sources]
+    return reply_of(3, lease=lease, repair=number, sources=(ctypes.c_uint8 * 6)(*[fragment] * sources)), words
+
+
+def replies():
+    """Replies with their words, and the bytes of each that its kind uses."""
+    of = {name: range(getattr(lrc_embed.Reply, name).offset, getattr(lrc_embed.Reply, name).offset + getattr(lrc_embed.Reply, name).size)
+          for name in ("refusal", "repair", "sources", "detail", "clock", "ended", "lease", "seats")}
+    for number in (0, 65535):
+        for kind, seats in ((1, 16), (9, 10)):
+            seat = lrc_embed.Seat(number, number)
+            reply = reply_of(kind, seats=(lrc_embed.Seat * 16)(*[seat] * seats))
+            yield reply, ["placed", *[f"{number}:{number}"] * seats], of["seats"][:4 * seats]
+    for kind, word in ((2, "dropped"), (4, "idle"), (5, "ended"), (6, "changed")):
+        yield reply_of(kind), [word], ()
+    for repair, (_, sources) in REPAIRS.items():
+        used = {of["repair"][0], *of["sources"][:sources], *of["lease"][:12]}  # (the expiry in a reply is 0)
+        yield *granted(repair, 0, 0, 1, lrc_embed.Seat(0, 0), 0), used
+        yield *granted(repair, 4095, 15, 8, lrc_embed.Seat(65535, 65535), 2**32 - 1), used
+    for refusal in range(101, 118):
+        yield from ((reply_of(7, refusal=refusal, detail=detail), ["refused", refusal, detail], {*of["refusal"], *of["detail"]})
+                    for detail in DETAILS.get(refusal, ()))
+        if refusal not in DETAILS:
+            yield reply_of(7, refusal=refusal), ["refused", refusal], of["refusal"]
+    for number in (0, 2**32 - 1):
+        yield reply_of(8, clock=number, ended=number), ["ticked", number, number], {*of["clock"], *of["ended"]}
+
+
+def wrong_replies():
+    """Replies with one number that is out of its range."""
+    yield from (reply_of(kind) for kind in (0, 10, 255))
+    yield from (reply_of(7, refusal=refusal) for refusal in (0, 100, 118, 255))
+    yield from (reply_of(7, refusal=refusal, detail=detail) for refusal, (least, most) in DETAILS.items()
+                for detail in (least - 1, most + 1) if 0 <= detail < 2**32)
+    yield from (reply_of(7, refusal=refusal, detail=detail) for refusal, detail in ((103, 2**8), (107, 2**16), (109, 2**16), (114, 257)))
+    for lease in ((4096, 15, 8), (4095, 16, 8), (4095, 15, 0), (4095, 15, 9)):
+        yield granted("local", *lease, lrc_embed.Seat(0, 0), 1)[0]
+    for number, sources in ((0, 0), (5, 0), (1, 6), (4, 3)):
+        for at in range(sources or 1):
+            reply = granted("move", 1, 1, 1, lrc_embed.Seat(0, 0), 1)[0]
+            reply.repair, reply.sources[at] = number, 16 if sources else 0
+            yield reply
+
+
+def written(shared, reply, room, is_null=False):
+    """What the library writes of a reply, with so much room: the status, the length, and the bytes of a buffer that has more."""
+    text, length = ctypes.create_string_buffer(FILLED * 300, 300), ctypes.c_size_t(99)
+    status = shared.lrc_embed_reply_text(ctypes.byref(reply), None if is_null else text, ctypes.c_size_t(room), ctypes.byref(length))
+    return status, length.value, text.raw
+
+
+def test_replies(count, shared):
+    """The text of each reply, with room enough, a byte less and none; and none of what is no reply, of which nothing is written."""
+    wrong, good, longest, rejected = [], 0, 0, list(wrong_replies())
+    unwritten = FILLED * 300
+    for reply, words, used in replies():
+        text = " ".join(map(str, words)).encode()
+        length = len(text)
+        for room, is_null, right in (
+                (length, False, (0, length, text + unwritten[length:])), (300, False, (0, length, text + unwritten[length:])),
+                (length - 1, False, (7, length, unwritten)), (0, False, (7, length, unwritten)), (0, True, (7, length, unwritten))):
+            found = written(shared, reply, room, is_null)
+            wrong += [f"{text} with room {room}: {found}"] if found != right else []
+        wrong += [f"{text} in the module"] if lrc_embed.reply_text(shared, reply).encode() != text else []
+        good, longest = good + 6, max(longest, length)
+        for at in {*range(1, ctypes.sizeof(reply))} - {*used}:  # (behind the kind)
+            other = lrc_embed.Reply.from_buffer_copy(reply)
+            ctypes.memset(ctypes.addressof(other) + at, 1, 1)
+            rejected.append(other)
+    wrong += [f"{bytes(reply).hex()} is a reply" for reply in rejected if written(shared, reply, 300) != (3, 99, unwritten)]
+    wrong += [f"{bytes(reply).hex()} is a reply without room" for reply in rejected if written(shared, reply, 0, True) != (3, 99, unwritten)]
+    count.add(good + 2 * len(rejected) - len(wrong), [f"texts: {it}" for it in wrong])
+    count.check(f"texts: the longest reply: {longest}; what is none: {len(rejected)}", longest == 198 and len(rejected) > 1_000)
+
+
 def test(count, shared):
     test_lines(count, shared)
+    test_replies(count, shared)
     test_forms(count, shared)
     test_words(count, shared)
 

@@ -22,7 +22,7 @@ from itertools import islice
 from tests import harness
 from tests.harness import CC, EXAMPLES, TOP
 from tests.library.comparing import STRIPES, Differs, compare, expect, status_of
-from tests.library.library import command_of, lrc_embed
+from tests.library.library import command_of, lrc_embed, text_of
 from tests.model import draws, rules
 
 NODES = harness.nodes_in_order(20, 16)
@@ -59,7 +59,7 @@ def play(library, calls, seed):
         always, rarely = book.view(text), book.view(text)
         for place, (session, line) in enumerate(islice(drawn_calls(store, seed), calls), 1):
             found = book.call(session, command_of(line))
-            expect(f"reply to `{line}`", str(found), store.call(session, line))
+            expect(f"reply to `{line}`", text_of(found), store.call(session, line))
             if place % 10 == 0:  # (it has not followed yet)
                 behind += is_behind(always, store, place)
             follow(always, store, place)

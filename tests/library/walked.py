@@ -21,11 +21,10 @@ def word(enum, number):
 
 def plan_words(plan):
     """How a fragment is rebuilt, as a reply writes it."""
-    repair = lrc_embed.Repair(plan.repair)
-    sources = plan.sources[:lrc_embed.SOURCES.get(repair, 0)]
+    word, *sources = library.plan_words(plan.repair, plan.sources)
     if any(plan.sources[len(sources):]) or plan.reserved:
         return "more than its sources"
-    return " ".join([repair.name.lower().rstrip("3"), *map(str, sources)])
+    return " ".join([word, *map(str, sources)])
 
 
 def rows_in_book(book, nodes, stripes, room):

@@ -282,7 +282,8 @@ def test_replica(count, library, archive, room):
     strict = ["-Wall", "-Wextra", "-Wpedantic", "-Werror"]
     if count.run("replica.c", CC, "-std=c11", "-O2", *strict, f"-I{INCLUDE}", *files, *wraps) is None:
         return
-    first = next(at for at, entry in enumerate(entries) if lrc_embed.Entry.from_buffer_copy(entry).reply.kind in lrc_embed.SEATS)
+    placed = lrc_embed.ReplyKind.PLACED, lrc_embed.ReplyKind.PLACED6
+    first = next(at for at, entry in enumerate(entries) if lrc_embed.Entry.from_buffer_copy(entry).reply.kind in placed)
     less, changed = entries[:first] + entries[first + 1:], entries.copy()
     changed[700] = changed[700][:20] + b"\x01" + changed[700][21:]
     for name, records, refused, right in (

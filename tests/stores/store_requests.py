@@ -11,7 +11,7 @@ import zlib
 
 from tests import harness
 from tests.library.comparing import STRIPES, Differs, compare
-from tests.library.library import FIELDS, command_of, lrc_embed, of_version
+from tests.library.library import FIELDS, command_of, lrc_embed, of_version, text_of
 from tests.model import draws, rules, store
 
 STORES = os.path.join(harness.EXAMPLES, "stores")
@@ -64,7 +64,8 @@ def wrong_reply(model, number, data):
     entry = lrc_embed.Entry.from_buffer_copy(data)
     line = line_of(entry.command)
     right = model.call(entry.session, line)
-    return [] if str(entry.reply) == right else [f"entry {number}, `{line}` by {entry.session}: {entry.reply}, and not {right}"]
+    found = text_of(entry.reply)
+    return [] if found == right else [f"entry {number}, `{line}` by {entry.session}: {found}, and not {right}"]
 
 
 def model_of(nodes, entries):
@@ -117,7 +118,7 @@ class Requests:
         for at, (number, token, data, checksum) in enumerate(rows, begin):
             session, line, reply = self.calls[at] if at < len(self.calls) else (None, "tick", None)
             entry = lrc_embed.Entry.from_buffer_copy(data)
-            found = number, token, entry.session, bytes(entry.command), str(entry.reply), checksum
+            found = number, token, entry.session, bytes(entry.command), text_of(entry.reply), checksum
             if found != (at + 1, f"r{at}", session, bytes(command_of(line)), reply, zlib.crc32(data)):
                 wrong.append(f"{name}: record {at + 1}: {found}")
         count.check(f"{name}: {begin + len(rows)} records of {len(self.calls)} calls", begin + len(rows) == len(self.calls))

@@ -11,7 +11,7 @@ import zlib
 from statistics import median
 
 from tests.harness import loaded, read
-from tests.library.library import command_of, lrc_embed
+from tests.library.library import command_of, lrc_embed, text_of
 from tests.model import draws, rules
 from tests.stores.store_postgres import pq
 from tests.stores.store_requests import (NODES, STORES, TOPOLOGY, Requests, Running, check_other_version, check_readme,
@@ -168,7 +168,7 @@ def test_append_under_way(count, cluster):
     count.check("standby: it does not lead before the commit", not is_told)
     primary.connection.rows("COMMIT")
     count.check("standby: it leads with the entry", standby.line() == f"lead 2 {number}")
-    count.check("standby: the request that comes again", standby.ask("under-way 1 place 1") == f"under-way {number} {reply}")
+    count.check("standby: the request that comes again", standby.ask("under-way 1 place 1") == f"under-way {number} {text_of(reply)}")
     try:
         primary.call("late", 1, command_of("place 2"))
         count.check("standby: the old primary appends", False)

@@ -77,10 +77,10 @@ class Store:
 
     def call(self, line, session=1):
         """Makes a call, prints it, and returns its reply."""
-        reply = self.book.call(session, command_of(self.library, line))
-        self.follow(bytes(self.book.entry(self.book.count() - 1)))
-        print(f"{self.count():2} {line:9} {reply}")
-        return reply
+        entry = self.book.call_entry(session, command_of(self.library, line))
+        self.follow(bytes(entry))
+        print(f"{self.count():2} {line:9} {lrc_embed.reply_text(self.library, entry.reply)}")
+        return entry.reply
 
     def homes(self, stripe):
         """The node of each fragment that has one."""

@@ -93,8 +93,8 @@ class Store:
         if kept is not None:
             number, entry = kept
             return number, lrc_embed.Entry.from_buffer_copy(entry).reply
-        reply = self.book.call(session, command)
-        number, entry = self.count(), bytes(self.book.entry(self.book.count() - 1))
+        made = self.book.call_entry(session, command)
+        number, reply, entry = self.count(), made.reply, bytes(made)
         try:
             with self.database:
                 self.database.execute("BEGIN")
@@ -111,7 +111,7 @@ class Store:
     def follow(self, number, stripe, reply):
         """Keeps which entry placed each stripe, which is its generation: a stripe that is placed again under its number is another
         one. This stays where the log is cut."""
-        if reply.kind in lrc_embed.SEATS:
+        if reply.kind in (lrc_embed.ReplyKind.PLACED, lrc_embed.ReplyKind.PLACED6):
             self.database.execute("INSERT INTO stripe VALUES (?, ?)", (stripe, number))
         elif reply.kind == lrc_embed.ReplyKind.DROPPED:
             self.database.execute("DELETE FROM stripe WHERE stripe = ?", (stripe,))
@@ -149,7 +149,8 @@ def main(path, library, nodes, entries=ENTRIES):
                 print(token, store.generation(int(rest.removeprefix("generation "))) or "none", flush=True)
             else:
                 token, session, command = request_of(library, line)
-                print(token, *store.call(token, session, command), flush=True)
+                number, reply = store.call(token, session, command)
+                print(token, number, lrc_embed.reply_text(library, reply), flush=True)
         except ValueError as why:
             print("not a request:", why, flush=True)
         except sqlite3.Error as why:

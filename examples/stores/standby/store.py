@@ -178,18 +178,17 @@ class Replica:
 
     def call(self, token, session, command):
         """Makes a call. Returns the number of its entry and its reply, once the entry is durable. The entry is appended
-        first, with the reply of a peek, so the book is never ahead of the log."""
+        first, as a peek returns it, so the book is never ahead of the log."""
         if kept := self.connection.rows("SELECT number, entry FROM log WHERE token = $1", token):
             (number, entry), = kept
             return number, lrc_embed.Entry.from_buffer_copy(entry).reply
-        reply, number = self.book.peek(session, command), self.count() + 1
-        entry = lrc_embed.Entry(session=session, command=command, reply=reply)
+        entry, number = self.book.peek_entry(session, command), self.count() + 1
         self.append(number, token, bytes(entry))
         self.book.call_at(number - 1, session, command)
         if number >= self.last_image + self.entries:
             self.cut(number)
         self.forget_in_time()
-        return number, reply
+        return number, entry.reply
 
     def look(self, stripe):
         """The number of entries, and what a stripe is after them: its level and margin, and the set of its missing fragments.
@@ -236,7 +235,7 @@ def answer(replica, line):
         return f"{token} not leading"
     token, session, command = request_of(replica.library, line)
     number, reply = replica.call(token, session, command)
-    return f"{token} {number} {reply}"
+    return f"{token} {number} {lrc_embed.reply_text(replica.library, reply)}"
 
 
 def run(replica):
