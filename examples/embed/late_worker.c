@@ -36,48 +36,12 @@ static void open_book(lrc_handle *handle) {
     if (status != LRC_DONE) stop("open", status);
 }
 
-static void print_placed(const lrc_reply *reply, int fragments) {
-    printf("placed");
-    for (int f = 0; f < fragments; f++) printf(" %u:%u", reply->seats[f].node, reply->seats[f].slot);
-}
-
-static void print_local(const lrc_reply *reply, int sources) {
-    printf(" local");
-    for (int i = 0; i < sources; i++) printf(" %u", reply->sources[i]);
-}
-
-static void print_granted(const lrc_reply *reply) {
-    const lrc_lease *lease = &reply->lease;
-    printf("granted %u %u %u:%u epoch %u", lease->stripe, lease->fragment, lease->target.node, lease->target.slot,
-           (unsigned)lease->epoch);
-    if (reply->repair == LRC_GLOBAL) printf(" global");
-    if (reply->repair == LRC_MOVE) printf(" move");
-    if (reply->repair == LRC_LOCAL) print_local(reply, 6);
-    if (reply->repair == LRC_LOCAL3) print_local(reply, 3);
-}
-
-static bool has_detail(uint8_t refusal) {
-    return refusal == LRC_NO_LAWFUL_NODE || refusal == LRC_UPGRADE_RUNNING || refusal == LRC_WOULD_LOSE ||
-           refusal == LRC_ALREADY_LEASED || refusal == LRC_NOT_HOLDER || refusal == LRC_TARGET_OFFLINE ||
-           refusal == LRC_NOT_EMPTY;
-}
-
 static void print_reply(const lrc_reply *reply) {
-    switch (reply->kind) {
-    case LRC_PLACED: print_placed(reply, LRC_FRAGMENTS); break;
-    case LRC_PLACED6: print_placed(reply, LRC_NARROW_FRAGMENTS); break;
-    case LRC_DROPPED: printf("dropped"); break;
-    case LRC_GRANTED: print_granted(reply); break;
-    case LRC_IDLE: printf("idle"); break;
-    case LRC_ENDED: printf("ended"); break;
-    case LRC_CHANGED: printf("changed"); break;
-    case LRC_REFUSED:
-        printf("refused %u", reply->refusal);
-        if (has_detail(reply->refusal)) printf(" %u", (unsigned)reply->detail);
-        break;
-    case LRC_TICKED: printf("ticked %u %u", (unsigned)reply->clock, (unsigned)reply->ended); break;
-    }
-    printf("\n");
+    uint8_t text[198]; // the longest one has as many bytes
+    size_t length = 0;
+    uint32_t status = lrc_embed_reply_text(reply, text, sizeof text, &length);
+    if (status != LRC_DONE) stop("reply_text", status);
+    printf("%.*s\n", (int)length, (const char *)text);
 }
 
 int main(void) {
@@ -100,9 +64,7 @@ int main(void) {
     open_book(&handle);
     printf("script 1\n");
     for (size_t i = 0; i < COUNT; i++) {
-        log[i].session = 1;
-        log[i].command = script[i];
-        uint32_t status = lrc_embed_call(&handle, log[i].session, &log[i].command, &log[i].reply);
+        uint32_t status = lrc_embed_call_entry(&handle, 1, &script[i], &log[i]);
         if (status != LRC_DONE) stop("call", status);
         printf("%zu ", i + 1);
         print_reply(&log[i].reply);

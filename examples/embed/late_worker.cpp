@@ -3,13 +3,14 @@
 
 #include <cstddef>
 #include <cstdio>
+#include <cstring>
 #include <optional>
 #include <stdexcept>
 #include <string>
 #include <utility>
 #include <vector>
 
-// The word for a number, by one of the three functions that return words.
+// The word for a number, by one of the functions that return words.
 template <class Name, class Number> static std::string word_for(Name name, Number number) {
     std::uint8_t text[24];
     std::size_t length = 0;
@@ -35,9 +36,17 @@ class Fault : public std::runtime_error {
     const std::uint32_t cause;
 };
 
-// The words for the numbers of a reply.
-inline std::string reply_name(std::uint8_t kind) { return word_for(lrc_embed_reply_name, kind); }
+// The words for the number of a refusal.
 inline std::string refusal_name(std::uint8_t refusal) { return word_for(lrc_embed_refusal_name, refusal); }
+
+// What `lrcman run` prints of a reply: at most 198 bytes.
+inline std::string reply_text(const lrc_reply &reply) {
+    std::uint8_t text[198];
+    std::size_t length = 0;
+    auto status = lrc_embed_reply_text(&reply, text, sizeof text, &length);
+    if (status != LRC_DONE) throw Fault("reply_text", status);
+    return std::string(text, text + length);
+}
 
 // The bytes of a fragment; none where it is not there.
 using Fragment = std::vector<std::uint8_t>;
@@ -109,6 +118,26 @@ class Book {
         done("call", lrc_embed_call(&handle, session, &command, &reply));
         return reply;
     }
+    // Makes a call, and returns its entry, which a store saves.
+    lrc_entry call_entry(std::uint8_t session, const lrc_command &command) {
+        lrc_entry entry{};
+        done("call_entry", lrc_embed_call_entry(&handle, session, &command, &entry));
+        return entry;
+    }
+    // The same, with a row for each fragment whose home or live lease the call changed.
+    std::pair<lrc_entry, std::vector<lrc_change>> call_changes(std::uint8_t session, const lrc_command &command) {
+        lrc_entry entry{};
+        std::vector<lrc_change> rows;
+        std::size_t count = LRC_FRAGMENTS;
+        for (;;) {
+            rows.resize(count);
+            auto status = lrc_embed_call_changes(&handle, session, &command, &entry, rows.data(), rows.size(), &count);
+            if (status == LRC_SHORT) continue; // (nothing is made, and `count` rows are needed)
+            done("call_changes", status);
+            rows.resize(count);
+            return {entry, rows};
+        }
+    }
     // Makes the calls of the sessions and commands of these entries, one after the other, and writes each entry there. It returns how
     // many are made and the status, which is done, or why the next call is not made; those before it stay.
     std::pair<std::size_t, std::uint32_t> calls(std::vector<lrc_entry> &entries) {
@@ -142,17 +171,9 @@ class Book {
         return before;
     }
     // The text of the image of the state.
-    std::string image() {
-        std::string text;
-        std::size_t length = 0;
-        for (;;) {
-            auto room = reinterpret_cast<std::uint8_t *>(text.data());
-            auto status = lrc_embed_image(&handle, room, text.size(), &length);
-            if (status != LRC_SHORT) done("image", status);
-            text.resize(length);
-            if (status == LRC_DONE) return text;
-        }
-    }
+    std::string image() { return text("image", lrc_embed_image); }
+    // A table of the book, as `lrcman show` prints it.
+    std::string show(lrc_view view) { return text("show", lrc_embed_show, std::uint8_t(view)); }
     // Forgets the entries, which the log has.
     void forget() { done("forget", lrc_embed_forget(&handle)); }
     lrc_entry entry(std::size_t index) {
@@ -237,6 +258,18 @@ class Book {
         done(what, status);
         return result;
     }
+    // The text that a look writes.
+    template <class Look, class... Numbers> std::string text(const char *what, Look look, Numbers... numbers) {
+        std::string text;
+        std::size_t length = 0;
+        for (;;) {
+            auto room = reinterpret_cast<std::uint8_t *>(text.data());
+            auto status = look(&handle, numbers..., room, text.size(), &length);
+            if (status != LRC_SHORT) done(what, status);
+            text.resize(length);
+            if (status == LRC_DONE) return text;
+        }
+    }
     // All rows of a table, a buffer at a time. `next` is told whether there is a last row.
     template <class Row, class Next> std::vector<Row> walk(const char *what, Next next) {
         std::vector<Row> rows, more(256);
@@ -283,28 +316,6 @@ static lrc_command of_fragment(std::uint8_t kind, std::uint16_t stripe, std::uin
     return command;
 }
 
-static std::string text_of(const lrc_seat &seat) { return std::to_string(seat.node) + ":" + std::to_string(seat.slot); }
-
-// The text of a reply of the script below.
-static std::string text_of(const lrc_reply &reply) {
-    std::string text;
-    switch (reply.kind) {
-    case LRC_PLACED:
-        text = "placed";
-        for (const auto &seat : reply.seats) text += " " + text_of(seat);
-        return text;
-    case LRC_GRANTED:
-        text = "granted " + std::to_string(reply.lease.stripe) + " " + std::to_string(reply.lease.fragment) + " " +
-               text_of(reply.lease.target) + " epoch " + std::to_string(reply.lease.epoch) + " local";
-        for (auto source : reply.sources) text += " " + std::to_string(source);
-        return text;
-    case LRC_ENDED: return "ended";
-    case LRC_CHANGED: return "changed";
-    case LRC_REFUSED: return "refused " + std::to_string(reply.refusal);
-    default: return reply_name(reply.kind);
-    }
-}
-
 static std::string twenty_nodes() {
     std::string text;
     for (int i = 0; i < 20; i++)
@@ -335,22 +346,31 @@ static int run() {
     };
     Book book(twenty_nodes());
     std::printf("script 1\n");
+    std::vector<lrc_entry> log;
+    std::string changed;
     for (const auto &command : script) {
-        auto reply = book.call(1, command);
-        std::printf("%zu %s\n", book.count(), text_of(reply).c_str());
-        if (reply.kind == LRC_GRANTED && !is_rebuilt(book)) return 1;
+        auto [entry, changes] = book.call_changes(1, command);
+        log.push_back(entry); // a store saves it, and then acts on the reply
+        changed += std::to_string(changes.size()) + " ";
+        std::printf("%zu %s\n", book.count(), reply_text(entry.reply).c_str());
+        if (entry.reply.kind != LRC_GRANTED) continue;
+        if (changes[0].lease_after.epoch != entry.reply.lease.epoch || !is_rebuilt(book)) return 1;
     }
+    // a place fills sixteen seats; a late report and a revoke without a lease change nothing
+    if (changed != "16 1 1 1 1 0 1 0 0 ") return 1;
     // nothing is left to repair, and a worker that asks by a peek adds no entry
     lrc_command next{};
     next.kind = LRC_NEXT;
     if (book.peek(1, next).kind != LRC_IDLE) return 1;
-    std::vector<lrc_entry> log = book.entries();
+    auto entries = book.entries();
+    if (entries.size() != log.size() || std::memcmp(entries.data(), log.data(), log.size() * sizeof log[0])) return 1;
     // fragment 3 moved from node 3, which is gone, to node 17
     if (book.stripes().size() != 1 || book.nodes().size() != 20 || !book.leases().empty()) return 1;
     if (!book.homes_on(3).empty() || book.homes_on(17).size() != 1 || book.first_risk() || book.repair(1, 3)) return 1;
     auto outlook = book.forecast(LRC_LOSE, {0, 1, 2, 4});
     if (outlook.first.size() != 1 || outlook.first[0].before.kind != LRC_WHOLE) return 1;
     if (refusal_name(LRC_STALE) != "stale" || rules_version() != LRC_RULES_VERSION) return 1;
+    if (book.show(LRC_SHOW_LEASES) != "stripe,fragment,holder,target,epoch,expiry\n") return 1;
     // another call in the place of the last one is refused
     try {
         book.call_at(book.before() + log.size() - 1, 1, next);
@@ -367,6 +387,7 @@ static int run() {
     if (made.first != script.size() || made.second != LRC_DONE || grouped.image() != book.image()) return 1;
     Book again(twenty_nodes(), log);
     std::printf("replayed %zu\n", again.count());
+    if (again.call(1, next).kind != LRC_IDLE || again.call_entry(1, next).reply.kind != LRC_IDLE) return 1;
     // a book that begins in the image has its state, and the entries are those before it
     Book begun = Book::from_image(twenty_nodes(), book.image());
     if (begun.image() != book.image() || begun.before() != log.size() || begun.count() != 0) return 1;

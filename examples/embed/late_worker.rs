@@ -132,6 +132,7 @@ unsafe extern "C" {
     fn lrc_embed_risk(handle: &mut Handle, rows: *mut Risk, length: usize, count: &mut usize) -> u32;
     fn lrc_embed_count(handle: &mut Handle, count: &mut usize) -> u32;
     fn lrc_embed_entry(handle: &mut Handle, index: usize, entry: &mut Entry) -> u32;
+    fn lrc_embed_reply_text(reply: &Reply, text: *mut u8, room: usize, length: &mut usize) -> u32;
     fn lrc_embed_recipe(handle: &mut Handle, stripe: u16, fragment: u8, recipe: &mut Recipe) -> u32;
     fn lrc_embed_encode(code: u8, data: *const Bytes, data_count: usize, parities: *mut Buffer, parities_count: usize) -> u32;
     fn lrc_embed_rebuild(recipe: &Recipe, fragments: *const Bytes, count: usize, rebuilt: *mut u8, length: usize) -> u32;
@@ -269,26 +270,14 @@ impl Drop for Book {
     }
 }
 
-impl Display for Seat {
-    fn fmt(&self, f: &mut Formatter) -> fmt::Result {
-        write!(f, "{}:{}", self.node, self.slot)
-    }
-}
-
-/// The text of a reply of the script below.
+/// What `lrcman run` prints of a reply: at most 198 bytes.
 impl Display for Reply {
     fn fmt(&self, f: &mut Formatter) -> fmt::Result {
-        let Lease { stripe, fragment, target, epoch, .. } = self.lease;
-        match self.kind {
-            1 => self.seats.iter().try_fold(write!(f, "placed")?, |(), seat| write!(f, " {seat}")),
-            3 => {
-                write!(f, "granted {stripe} {fragment} {target} epoch {epoch} local")?;
-                self.sources.iter().try_for_each(|source| write!(f, " {source}"))
-            }
-            5 => write!(f, "ended"),
-            6 => write!(f, "changed"),
-            7 => write!(f, "refused {}", self.refusal),
-            _ => write!(f, "?"),
+        let (mut text, mut length) = ([0; 198], 0);
+        // SAFETY: pointer and length are those of one slice.
+        match unsafe { lrc_embed_reply_text(self, text.as_mut_ptr(), text.len(), &mut length) } {
+            DONE => write!(f, "{}", String::from_utf8_lossy(&text[..length])),
+            _ => Err(fmt::Error),
         }
     }
 }
