@@ -1,5 +1,5 @@
-// What the stores in C++ share: the library's versions, calls that have to be done, commands, nodes as a text, and a history
-// that is never full.
+// What the stores in C++ share: the library's versions, calls that have to be done, commands, texts of nodes and replies, and a
+// history that is never full.
 #ifndef CALLS_H
 #define CALLS_H
 
@@ -100,23 +100,23 @@ inline std::string image_of(lrc_handle *handle) {
         room.resize(length + length / 4);
     }
 }
-inline lrc_reply call_book(lrc_handle *handle, std::uint8_t session, const lrc_command &command) {
-    lrc_reply reply{};
-    expect_done("call", lrc_embed_call(handle, session, &command, &reply));
-    return reply;
+// Makes a call, and returns its entry, for the log.
+inline lrc_entry call_book(lrc_handle *handle, std::uint8_t session, const lrc_command &command) {
+    lrc_entry entry{};
+    expect_done("call", lrc_embed_call_entry(handle, session, &command, &entry));
+    return entry;
 }
 inline lrc_reply peek_book(lrc_handle *handle, std::uint8_t session, const lrc_command &command) {
     lrc_reply reply{};
     expect_done("peek", lrc_embed_peek(handle, session, &command, &reply));
     return reply;
 }
-// The entry of the last call, for the log.
-inline lrc_entry last_entry(lrc_handle *handle) {
-    std::size_t count = 0;
-    lrc_entry entry{};
-    expect_done("count", lrc_embed_count(handle, &count));
-    expect_done("entry", lrc_embed_entry(handle, count - 1, &entry));
-    return entry;
+// What `lrcman run` prints of a reply: at most 198 bytes.
+inline std::string text_of(const lrc_reply &reply) {
+    std::uint8_t text[198];
+    std::size_t length = 0;
+    expect_done("text", lrc_embed_reply_text(&reply, text, sizeof text, &length));
+    return std::string(text, text + length);
 }
 // Forgets the history long before it is full. The caller has the entries.
 inline void forget_in_time(lrc_handle *handle) {

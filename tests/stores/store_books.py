@@ -160,7 +160,7 @@ def test_orders(count, cluster):
     expect(count, running, "fill 64", "filled")
     expect(count, running, "urgent", "whole")
     expect(count, running, "fail 9", f"{books} changed")
-    expect(count, running, "fail 9", f"{books} refused 105 0")
+    expect(count, running, "fail 9", f"{books} refused 105")
     expect(count, running, "book 2 down 20", "1 changed")
     expect(count, running, "urgent", urgent(cluster))
     expect(count, running, "book 2 up 20", "1 changed")

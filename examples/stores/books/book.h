@@ -36,10 +36,10 @@ class Book {
 
     // Makes a call, and puts its record into the batch. The reply may be seen once the batch is durable.
     lrc_reply call(std::uint8_t session, const lrc_command &command, std::vector<Record> &batch) {
-        auto reply = call_book(&handle, session, command);
-        batch.push_back({number, ++made, last_entry(&handle)});
+        auto entry = call_book(&handle, session, command);
+        batch.push_back({number, ++made, entry});
         forget_in_time(&handle);
-        return reply;
+        return entry.reply;
     }
     // Cuts the log by an image if there is none of the last so many entries, all of which are durable.
     void cut_in_time(std::uint64_t entries_an_image, Log &log) {

@@ -22,12 +22,6 @@
 
 namespace {
 
-std::string text_of(const lrc_reply &reply) {
-    if (reply.kind == LRC_CHANGED) return "changed";
-    if (reply.kind != LRC_REFUSED) return "reply " + std::to_string(reply.kind);
-    return "refused " + std::to_string(reply.refusal) + " " + std::to_string(reply.detail);
-}
-
 // A book that does not list a node of the domain has nothing to say of its upgrade.
 bool is_against(const Answer &answer) {
     return answer.reply.kind != LRC_CHANGED && answer.reply.refusal != LRC_UNKNOWN_DOMAIN;

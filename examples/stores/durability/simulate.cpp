@@ -38,7 +38,7 @@ class Book {
 
     lrc_reply call(const lrc_command &command) {
         forget_in_time(&handle);
-        return call_book(&handle, 1, command);
+        return call_book(&handle, 1, command).reply;
     }
     std::vector<std::uint16_t> lost() {
         std::size_t count = 0;

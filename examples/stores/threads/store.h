@@ -101,15 +101,15 @@ class Store {
     }
     Told make(std::unique_lock<Lock> &hold, std::uint8_t session, const lrc_command &command) {
         durable.expect();
-        auto reply = call_book(&handle, session, command);
+        auto entry = call_book(&handle, session, command);
         auto number = ++made;
-        pending.push_back(record_of(number, durable.count(), last_entry(&handle)));
+        pending.push_back(record_of(number, durable.count(), entry));
         forget_in_time(&handle);
         pushed.notify_one();
         grown.notify_all();
         hold.unlock();
         durable.wait_for(number);
-        return {number, reply};
+        return {number, entry.reply};
     }
     // The writer: takes all that is pending, and makes it durable without the lock. Now and then it takes an image too, and cuts
     // the log, while the calls wait that come meanwhile.
