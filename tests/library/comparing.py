@@ -108,8 +108,13 @@ def compare(book, store, count):
         expect("the entries that are forgotten", status_of(lambda: list(book.entries(before - 1))), lrc_embed.Status.FORGOTTEN)
 
 
-def compare_code(found, right):
-    """A reply has the kind and the repair of its code, and 0 after its seats and its sources."""
+def compare_reply(shared, found, right):
+    """A reply is the model's, by its fields and by its text. It has the kind and the repair of its code, and 0 after its seats and
+    its sources."""
+    expect("reply", library.text_of(found), right)
+    expect("text of the reply", lrc_embed.reply_text(shared, found), right)
+    # (only a look has the expiry of a lease: in replies it stays 0, as in earlier logs)
+    expect("expiry in the reply", found.lease.expiry, 0)
     words = right.split(" ")
     seats = len(words) - 1 if words[0] == "placed" else 0
     sources = len(words) - 7 if words[6:7] == ["local"] else 0
@@ -184,12 +189,8 @@ def make(book, store, session, line, count, looks=False):
     right = store.call(session, line)
     if rows is not None:
         expect("what the call changed", [change_in_book(row) for row in rows], changes_in_model(was, fragments_in_model(store)))
-    expect("reply", library.text_of(found), right)
-    expect("text of the reply", lrc_embed.reply_text(book.library, found), right)
     expect("reply that a peek reports", bytes(peeked), bytes(found))
-    compare_code(found, right)
-    # (only a look has the expiry of a lease: in replies it stays 0, as in earlier logs)
-    expect("expiry in the reply", found.lease.expiry, 0)
+    compare_reply(book.library, found, right)
     entry = book.entry(book.count() - 1)
     expect("session of the entry", entry.session, session)
     expect("command of the entry", bytes(entry.command), bytes(command))

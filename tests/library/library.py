@@ -38,10 +38,10 @@ def of_version(count, room, version):
     return Other(shared, folder, ["-Wl,--wrap=lrc_embed_version", f"{folder}/wrapped.o"])
 
 
-# How many seats a reply has, and how many sources a repair; and the refusals with a detail, after docs/FORMATS.md.
+# How many seats a reply has, and how many sources a repair; and the least and the greatest detail of each refusal that has one.
 SEATS = {lrc_embed.ReplyKind.PLACED: 16, lrc_embed.ReplyKind.PLACED6: 10}
 SOURCES = {lrc_embed.Repair.LOCAL: 6, lrc_embed.Repair.LOCAL3: 3}
-DETAILED = {103, 107, 109, 110, 114, 115, 117}
+DETAILS = {103: (0, 15), 107: (0, 255), 109: (0, 4095), 110: (0, 2**32 - 1), 114: (1, 8), 115: (0, 65535), 117: (0, 2**32 - 1)}
 
 
 def plan_words(repair, sources):
@@ -59,7 +59,7 @@ def text_of(reply):
     elif kind is kind.GRANTED:
         words += [lease.stripe, lease.fragment, lease.target, "epoch", lease.epoch, *plan_words(reply.repair, reply.sources)]
     elif kind is kind.REFUSED:
-        words += [reply.refusal, *([reply.detail] if reply.refusal in DETAILED else [])]
+        words += [reply.refusal, *([reply.detail] if reply.refusal in DETAILS else [])]
     elif kind is kind.TICKED:
         words += [reply.clock, reply.ended]
     return " ".join(map(str, words))

@@ -128,7 +128,6 @@ def test_words(count, shared):
 
 # Replies: of each kind those with all numbers at their least and at their greatest, and the words that docs/FORMATS.md asks for.
 
-DETAILS = {103: (0, 15), 107: (0, 255), 109: (0, 4095), 110: (0, 2**32 - 1), 114: (1, 8), 115: (0, 65535), 117: (0, 2**32 - 1)}
 REPAIRS = {"local": (1, 6), "global": (2, 0), "move": (3, 0), "local ": (4, 3)}
 FILLED = b"\xa5"
 
@@ -165,8 +164,8 @@ def replies():
         yield *granted(repair, 4095, 15, 8, lrc_embed.Seat(65535, 65535), 2**32 - 1), used
     for refusal in range(101, 118):
         yield from ((reply_of(7, refusal=refusal, detail=detail), ["refused", refusal, detail], {*of["refusal"], *of["detail"]})
-                    for detail in DETAILS.get(refusal, ()))
-        if refusal not in DETAILS:
+                    for detail in library.DETAILS.get(refusal, ()))
+        if refusal not in library.DETAILS:
             yield reply_of(7, refusal=refusal), ["refused", refusal], of["refusal"]
     for number in (0, 2**32 - 1):
         yield reply_of(8, clock=number, ended=number), ["ticked", number, number], {*of["clock"], *of["ended"]}
@@ -176,9 +175,11 @@ def wrong_replies():
     """Replies with one number that is out of its range."""
     yield from (reply_of(kind) for kind in (0, 10, 255))
     yield from (reply_of(7, refusal=refusal) for refusal in (0, 100, 118, 255))
-    yield from (reply_of(7, refusal=refusal, detail=detail) for refusal, (least, most) in DETAILS.items()
+    yield from (reply_of(7, refusal=refusal, detail=detail) for refusal, (least, most) in library.DETAILS.items()
                 for detail in (least - 1, most + 1) if 0 <= detail < 2**32)
-    yield from (reply_of(7, refusal=refusal, detail=detail) for refusal, detail in ((103, 2**8), (107, 2**16), (109, 2**16), (114, 257)))
+    # (a detail is not cut down to the bits of its range)
+    yield from (reply_of(7, refusal=refusal, detail=detail) for refusal, (least, most) in library.DETAILS.items()
+                for detail in (least + 2**8, least + 2**16) if most < detail)
     for lease in ((4096, 15, 8), (4095, 16, 8), (4095, 15, 0), (4095, 15, 9)):
         yield granted("local", *lease, lrc_embed.Seat(0, 0), 1)[0]
     for number, sources in ((0, 0), (5, 0), (1, 6), (4, 3)):
