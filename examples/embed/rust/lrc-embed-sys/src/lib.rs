@@ -133,15 +133,15 @@ pub const LRC_CAUSE_WRONG_EXPIRY: u32 = 16;
 
 // lrc_line_cause: Why a line of a script is bad. docs/FORMATS.md has the order in which they are asked.
 /// the first word is not that of a command
-pub const LRC_LINE_UNKNOWN_WORD: u8 = 1;
+pub const LRC_LINE_UNKNOWN_WORD: u32 = 1;
 /// the command takes another number of words
-pub const LRC_LINE_WORD_COUNT: u8 = 2;
+pub const LRC_LINE_WORD_COUNT: u32 = 2;
 /// an argument is not a number
-pub const LRC_LINE_NOT_A_NUMBER: u8 = 3;
+pub const LRC_LINE_NOT_A_NUMBER: u32 = 3;
 /// an argument is a number that is out of its range
-pub const LRC_LINE_OUT_OF_RANGE: u8 = 4;
+pub const LRC_LINE_OUT_OF_RANGE: u32 = 4;
 /// the line has more than 1,024 bytes
-pub const LRC_LINE_TOO_LONG: u8 = 5;
+pub const LRC_LINE_TOO_LONG: u32 = 5;
 
 // lrc_command_kind: After each kind: the fields of lrc_command that it uses. The others may be anything, and are 0 in the entry
 // of the history.

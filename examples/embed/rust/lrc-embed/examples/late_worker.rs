@@ -1,24 +1,5 @@
 //! The late worker of `examples/embed/late_worker.c` over the safe crate.
-use lrc_embed::{sys, Book, Command, Entry, Fault, Reply};
-
-/// What `lrcman run` prints of the replies of this example.
-fn line(reply: &Reply) -> String {
-    let lease = reply.lease;
-    match reply.kind {
-        sys::LRC_PLACED => {
-            let seats = reply.seats.iter().map(|seat| format!(" {}:{}", seat.node, seat.slot));
-            format!("placed{}", seats.collect::<String>())
-        }
-        sys::LRC_GRANTED => {
-            let sources = reply.sources.iter().map(|source| format!(" {source}")).collect::<String>();
-            let target = format!("{}:{}", lease.target.node, lease.target.slot);
-            format!("granted {} {} {target} epoch {} local{sources}", lease.stripe, lease.fragment, lease.epoch)
-        }
-        sys::LRC_ENDED => "ended".to_owned(),
-        sys::LRC_CHANGED => "changed".to_owned(),
-        _ => format!("refused {}", reply.refusal),
-    }
-}
+use lrc_embed::{reply_text, sys, Book, Command, Entry, Fault};
 
 fn main() -> Result<(), Fault> {
     let node = |number: u16| format!("[[node]]\nnumber = {number}\nfault = {number}\nupgrade = {}\nslots = 4\n", number % 10);
@@ -39,10 +20,10 @@ fn main() -> Result<(), Fault> {
     let mut book = Book::open(&nodes)?;
     println!("script 1");
     for command in script {
-        let reply = book.call(1, command)?;
+        let entry = book.call_entry(1, command)?;
         // A store writes the entry to its own log before it acts on the reply.
-        log.extend(book.last_entry()?);
-        println!("{} {}", book.count()?, line(&reply));
+        log.push(entry);
+        println!("{} {}", book.count()?, reply_text(&entry.reply)?);
     }
 
     // The program starts again; a long log is read and replayed in pieces.

@@ -1,4 +1,5 @@
 //! The commands, as a store makes them.
+use crate::Fault;
 use lrc_embed_sys::{self as sys, lrc_command};
 
 /// A command; `docs/RULES.md` says what each does.
@@ -47,5 +48,35 @@ impl From<Command> for lrc_command {
             Command::Upgraded { domain } => lrc_command { domain, ..of(sys::LRC_UPGRADED) },
             Command::Tick => of(sys::LRC_TICK),
         }
+    }
+}
+
+/// The command of an entry. It has [`sys::LRC_OUT_OF_RANGE`] if there is no such kind.
+impl TryFrom<lrc_command> for Command {
+    type Error = Fault;
+
+    fn try_from(command: lrc_command) -> Result<Command, Fault> {
+        let lrc_command { stripe, fragment, epoch, node, domain, .. } = command;
+        Ok(match command.kind {
+            sys::LRC_PLACE => Command::Place { stripe },
+            sys::LRC_PLACE6 => Command::Place6 { stripe },
+            sys::LRC_DROP => Command::Drop { stripe },
+            sys::LRC_LEASE => Command::Lease { stripe, fragment },
+            sys::LRC_NEXT => Command::Next,
+            sys::LRC_REPORT => Command::Report { stripe, fragment, epoch },
+            sys::LRC_ABANDON => Command::Abandon { stripe, fragment, epoch },
+            sys::LRC_REVOKE => Command::Revoke { stripe, fragment },
+            sys::LRC_FAIL => Command::Fail { node },
+            sys::LRC_DOWN => Command::Down { node },
+            sys::LRC_UP => Command::Up { node },
+            sys::LRC_DRAIN => Command::Drain { node },
+            sys::LRC_UNDRAIN => Command::Undrain { node },
+            sys::LRC_RETIRE => Command::Retire { node },
+            sys::LRC_JOIN => Command::Join { node },
+            sys::LRC_UPGRADE => Command::Upgrade { domain },
+            sys::LRC_UPGRADED => Command::Upgraded { domain },
+            sys::LRC_TICK => Command::Tick,
+            _ => return Err(Fault { status: sys::LRC_OUT_OF_RANGE, detail: 0, cause: 0 }),
+        })
     }
 }

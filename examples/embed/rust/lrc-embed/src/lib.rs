@@ -1,6 +1,7 @@
 //! A proved book of erasure-coded stripes, over `liblrc_embed`: a [`Book`] owns it, and [`recipe_of`], [`matrix`], [`encode`] and
-//! [`rebuild`] are for the bytes of stripes. `docs/EMBEDDING.md` says how a store keeps its lock and its log around a book, and
-//! `lrc_embed.h` what each call returns. The structs are those of the header.
+//! [`rebuild`] are for the bytes of stripes. [`read_command`], [`command_line`], [`reply_text`] and [`words`] are for people.
+//! `docs/EMBEDDING.md` says how a store keeps its lock and its log around a book, and `lrc_embed.h` what each call returns. The
+//! structs are those of the header.
 //!
 //! A book may go from one thread to another, but no two threads use it at once:
 //!
@@ -15,13 +16,16 @@
 //! ```
 mod bytes;
 mod command;
+mod texts;
 mod views;
+pub mod words;
 
 use std::cell::UnsafeCell;
 use std::fmt::{self, Display, Formatter};
 
 pub use bytes::{encode, matrix, rebuild, recipe_of};
 pub use command::Command;
+pub use texts::{command_line, read_command, reply_text};
 pub use views::{Published, Viewer};
 pub use lrc_embed_sys as sys;
 pub use sys::{
@@ -37,30 +41,29 @@ pub struct Fault {
     pub status: u32,
     /// Where it stopped: the position of a node or an entry, the number of a node, or the line of an image. Else 0.
     pub detail: u64,
-    /// Why the line of an image is invalid, as [`sys::LRC_CAUSE_SEAT_TAKEN`]. Else 0.
+    /// Why the line of an image is invalid, as [`sys::LRC_CAUSE_SEAT_TAKEN`], or that of a script is bad, as
+    /// [`sys::LRC_LINE_UNKNOWN_WORD`]. Else 0.
     pub cause: u32,
 }
 
 impl Display for Fault {
     fn fmt(&self, text: &mut Formatter) -> fmt::Result {
-        let own = sys::LRC_EMBED_VERSION;
-        match self.status {
-            0 => write!(text, "the library has version {} of its interface, and this crate is for version {own}", self.detail),
-            _ => write!(text, "{}", status_name(self.status)),
+        let Fault { status, detail, cause } = *self;
+        if status == 0 {
+            let own = sys::LRC_EMBED_VERSION;
+            return write!(text, "the library has version {detail} of its interface, and this crate is for version {own}");
         }
+        let why = match status {
+            sys::LRC_BAD_LINE => words::line_words(cause),
+            sys::LRC_INVALID_IMAGE => words::cause_words(cause),
+            _ => words::nodes_words(status),
+        };
+        let name = words::status_name(status).unwrap_or_else(|| format!("status {status}"));
+        write!(text, "{name}{}", why.map_or_else(String::new, |why| format!(": {why}")))
     }
 }
 
 impl std::error::Error for Fault {}
-
-/// The word for a status.
-fn status_name(status: u32) -> String {
-    let (mut word, mut length) = ([0; 24], 0);
-    match unsafe { sys::lrc_embed_status_name(status, word.as_mut_ptr(), word.len(), &mut length) } {
-        sys::LRC_DONE => String::from_utf8_lossy(&word[..length]).into_owned(),
-        _ => format!("status {status}"),
-    }
-}
 
 /// Done, or the fault.
 pub(crate) fn done(status: u32) -> Result<(), Fault> {
@@ -77,9 +80,14 @@ fn found_at(status: u32, detail: usize, cause: u32) -> Result<(), Fault> {
 
 /// The result, or nothing if there is no such thing.
 fn known<T>(status: u32, result: T) -> Result<Option<T>, Fault> {
-    match status {
-        sys::LRC_UNKNOWN => Ok(None),
-        _ => done(status).map(|()| Some(result)),
+    if_known(done(status).map(|()| result))
+}
+
+/// Nothing where there is no such thing.
+pub(crate) fn if_known<T>(result: Result<T, Fault>) -> Result<Option<T>, Fault> {
+    match result {
+        Err(Fault { status: sys::LRC_UNKNOWN, .. }) => Ok(None),
+        result => result.map(Some),
     }
 }
 
@@ -155,10 +163,16 @@ impl Book {
         found_at(status, detail, cause).map(|()| book)
     }
 
-    /// Makes a command of a session, 1 to 8. A refusal is a reply. A store saves [`Book::last_entry`] before it acts on it.
+    /// Makes a command of a session, 1 to 8. A refusal is a reply. A store that keeps a log takes [`Book::call_entry`].
     pub fn call(&mut self, session: u8, command: Command) -> Result<Reply, Fault> {
         let mut reply = Reply::default();
         done(unsafe { sys::lrc_embed_call(self.handle.get(), session, &command.into(), &mut reply) }).map(|()| reply)
+    }
+
+    /// Makes a command, and returns its entry, which a store saves before it acts on the reply.
+    pub fn call_entry(&mut self, session: u8, command: Command) -> Result<Entry, Fault> {
+        let mut entry = Entry::default();
+        done(unsafe { sys::lrc_embed_call_entry(self.handle.get(), session, &command.into(), &mut entry) }).map(|()| entry)
     }
 
     /// Makes a command, and returns its entry and a row for each fragment whose home or live lease it changed.
@@ -195,6 +209,12 @@ impl Book {
     pub fn peek(&self, session: u8, command: Command) -> Result<Reply, Fault> {
         let mut reply = Reply::default();
         done(unsafe { sys::lrc_embed_peek(self.handle.get(), session, &command.into(), &mut reply) }).map(|()| reply)
+    }
+
+    /// The entry that a call would add now.
+    pub fn peek_entry(&self, session: u8, command: Command) -> Result<Entry, Fault> {
+        let mut entry = Entry::default();
+        done(unsafe { sys::lrc_embed_peek_entry(self.handle.get(), session, &command.into(), &mut entry) }).map(|()| entry)
     }
 
     /// Makes the commands of saved entries, and compares each reply. After a fault, whose detail is the position of its entry, the
@@ -281,22 +301,6 @@ impl Book {
         looked!(self, lrc_embed_first_risk(), Risk::default())
     }
 
-    /// The text of the image of the state, in which a book can begin.
-    pub fn image(&self) -> Result<String, Fault> {
-        let mut text = vec![0; 1 << 20]; // (to ask with no room costs as much as the image)
-        loop {
-            let mut length = 0;
-            match unsafe { sys::lrc_embed_image(self.handle.get(), text.as_mut_ptr(), text.len(), &mut length) } {
-                sys::LRC_SHORT => text.resize(length, 0),
-                status => {
-                    done(status)?;
-                    text.truncate(length);
-                    return Ok(String::from_utf8_lossy(&text).into_owned());
-                }
-            }
-        }
-    }
-
     /// The entries that the history has.
     pub fn count(&self) -> Result<usize, Fault> {
         let mut count = 0;
@@ -314,7 +318,7 @@ impl Book {
         looked!(self, lrc_embed_entry(index), Entry::default())
     }
 
-    /// The entry of the last call, which a store saves.
+    /// The entry of the last call.
     pub fn last_entry(&self) -> Result<Option<Entry>, Fault> {
         match self.count()? {
             0 => Ok(None),
@@ -373,10 +377,7 @@ impl Book {
         let call = |from: &(u16, u8), rows: &mut [Fragment], count: &mut usize| unsafe {
             sys::lrc_embed_homes_on(at, node, from.0, from.1, rows.as_mut_ptr(), rows.len(), count)
         };
-        match Book::walked((0, 0), call, |_, row| (row.stripe, row.fragment + 1)) {
-            Err(Fault { status: sys::LRC_UNKNOWN, .. }) => Ok(None),
-            rows => rows.map(Some),
-        }
+        if_known(Book::walked((0, 0), call, |_, row| (row.stripe, row.fragment + 1)))
     }
 
     /// The entries of the store from a place on, which is the number of those before it.
