@@ -196,6 +196,14 @@ def written(shared, reply, room, is_null=False):
     return status, length.value, text.raw
 
 
+def is_fault(call):
+    try:
+        call()
+    except lrc_embed.Fault as fault:
+        return fault.status == lrc_embed.Status.OUT_OF_RANGE
+    return False
+
+
 def test_replies(count, shared):
     """The text of each reply, with room enough, a byte less and none; and none of what is no reply, of which nothing is written."""
     wrong, good, longest, rejected = [], 0, 0, list(wrong_replies())
@@ -218,6 +226,7 @@ def test_replies(count, shared):
     wrong += [f"{bytes(reply).hex()} is a reply without room" for reply in rejected if written(shared, reply, 0, True) != (3, 99, unwritten)]
     count.add(good + 2 * len(rejected) - len(wrong), [f"texts: {it}" for it in wrong])
     count.check(f"texts: the longest reply: {longest}; what is none: {len(rejected)}", longest == 198 and len(rejected) > 1_000)
+    count.check("texts: the module on what is no reply", is_fault(lambda: lrc_embed.reply_text(shared, lrc_embed.Reply())))
 
 
 def test(count, shared):
