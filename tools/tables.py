@@ -9,11 +9,14 @@ import sys
 from dataclasses import dataclass
 
 NODE, STRIPE, DOMAIN, SLOTS = range(65536), range(4096), range(256), range(1, 257)
+# The numbers of a lease, by their columns.
+TERMS = {"holder": range(1, 9), "epoch": range(1, 2**32 - 1), "expiry": range(1, 2**32 - 1)}
 MODES = ("active", "draining", "gone")
 NODES = "node,fault,upgrade,mode,down,upgrading,online,homes,targets,load,slots"
 STRIPES = ("stripe,code,level,margin,missing,missing_fragments,homeless,homeless_fragments,"
            + ",".join(f"home_{fragment}" for fragment in range(16)))
 LEASES = "stripe,fragment,holder,target,epoch,expiry"
+FRAGMENTS = "stripe,fragment,node,slot,fault,upgrade,state,mode,why,target,holder,epoch,expiry"
 STATUS = "name,value"
 LEVELS = ("whole", "risk", "unavailable", "lost")
 
@@ -46,6 +49,14 @@ class Code:
         others = missing & ~self.classes[2]
         return 2 - self.deficit(missing) if others else 3 - missing.bit_count()
 
+    def level(self, missing, homeless):
+        """The level of a stripe."""
+        if not self.is_recoverable(homeless):
+            return "lost"
+        if not self.is_recoverable(missing):
+            return "unavailable"
+        return "risk" if missing else "whole"
+
 
 CODES = {code.name: code for code in (Code("wide", (*range(6), 12), (*range(6, 12), 13), (14, 15)),
                                       Code("narrow", (0, 1, 2, 6), (3, 4, 5, 7), (8, 9)))}
@@ -72,6 +83,18 @@ class Node:
     targets: int
     load: int
     slots: int
+
+
+@dataclass(frozen=True, slots=True)
+class Stripe:
+    """A row of `show stripes`: its margin is None where its missing fragments are not recoverable; `homes` are seats by fragment."""
+    number: int
+    code: Code
+    level: str
+    margin: int | None
+    missing: int
+    homeless: int
+    homes: dict
 
 
 def bars(one, other, same_class):
@@ -141,7 +164,6 @@ class Row:
             self.refuse(column, "no seat NODE:SLOT")
         return int(found[1]), int(found[2])
 
-
     def mask(self, column, code):
         """A set of fragments of a code, as 0x and four hexadecimal digits."""
         if not re.fullmatch("0x[0-9a-f]{4}", self[column]) or int(self[column], 16) & ~code.all:
@@ -190,6 +212,39 @@ def nodes_of(path):
     if not nodes:
         raise Refused(f"{path}: the table has no nodes")
     return nodes
+
+
+def stripe_of(row):
+    """The stripe of a row, in which each column is what the masks of its fragments say."""
+    code = CODES[row.one_of("code", tuple(CODES))]
+    margin = None if row["margin"] == "-" else row.number("margin", range(4))
+    missing, homeless = row.mask("missing", code), row.mask("homeless", code)
+    stripe = Stripe(row.number("stripe", STRIPE), code, row.one_of("level", LEVELS), margin, missing, homeless, {})
+    if homeless & ~missing:
+        row.refuse("homeless", "not among the missing fragments")
+    if margin != code.margin(missing):
+        row.refuse("margin", "not that of the missing fragments")
+    if stripe.level != code.level(missing, homeless):
+        row.refuse("level", "not that of the missing and the homeless fragments")
+    for column, fragments in (("missing_fragments", missing), ("homeless_fragments", homeless)):
+        if row[column] != " ".join(map(str, members(fragments))):
+            row.refuse(column, "not the list of the mask before it")
+    for fragment in range(16):
+        column = f"home_{fragment}"
+        if fragment >= code.count and row[column]:
+            row.refuse(column, f"a {code.name} stripe has no such fragment")
+        if (row[column] == "-") != bool(homeless >> fragment & 1):
+            row.refuse(column, "not what the mask of the homeless fragments says")
+        if fragment < code.count and row[column] != "-":
+            stripe.homes[fragment] = row.seat(column)
+    return stripe
+
+
+def target_of(row):
+    """The target of the lease in a row, of which the other terms are numbers too."""
+    for column, within in TERMS.items():
+        row.number(column, within)
+    return row.seat("target")
 
 
 def run(name, main):

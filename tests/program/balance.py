@@ -15,8 +15,9 @@ round what it leases is reported. Right is:
   the script, with the shares that it counts.
 - Tables of `show fragments`, as the model makes them, give the same script; and so does a book over HTTP, of members that a test
   plays: some are away, busy or wrong, and a book changes while it is read.
-With --write the pictures of the page are drawn anew. Bad input is refused by file, line and column. The last line is
-'N passed, M failed'."""
+- Tables of 300 stores of drawn calls are read, by stripe and by fragment alike. A table in which one column says something else is
+  refused by file, line and column, as is bad input of other kinds.
+With --write the pictures of the page are drawn anew. The last line is 'N passed, M failed'."""
 import contextlib
 import copy
 import functools
@@ -33,7 +34,7 @@ from math import ceil, floor, sqrt
 
 from tests import harness
 from tests.harness import TOP, topology_of
-from tests.model import shown
+from tests.model import draws, shown
 from tests.model.rules import Node
 from tests.model.store import Store
 from tests.program.books import test_books
@@ -339,7 +340,7 @@ NODES += "0,0,0,active,no,no,yes,1,0,1,4\n1,1,1,active,no,no,yes,0,0,0,4\n"
 HOMES = ",".join(f"home_{fragment}" for fragment in range(16))
 STRIPES = f"stripe,code,level,margin,missing,missing_fragments,homeless,homeless_fragments,{HOMES}\n"
 LEASES = "stripe,fragment,holder,target,epoch,expiry\n"
-ROW = "1,narrow,lost,-,0x03fe,x,0x03fe,x,0:0" + ",-" * 9 + "," * 6 + "\n"
+ROW = "1,narrow,lost,-,0x03fe,1 2 3 4 5 6 7 8 9,0x03fe,1 2 3 4 5 6 7 8 9,0:0" + ",-" * 9 + "," * 6 + "\n"
 BAD = [
     ((NODES, STRIPES + ROW.replace("narrow", "wide"), LEASES), "stripes.csv: line 2, column home_10: no seat NODE:SLOT: ''"),
     ((NODES, STRIPES + ROW.replace("0:0", "0:256"), LEASES), "stripes.csv: line 2, column home_0: no seat NODE:SLOT: '0:256'"),
@@ -368,7 +369,152 @@ BAD = [
 ]
 
 
+# A field of a right table that is changed: its table, the line's first fields, the column, the word, and why it is refused.
+NOT_SAID = "the table of nodes has {} for node {}"
+CHANGED = [
+    ("stripes", "1", "level", "whole", "not that of the missing and the homeless fragments"),
+    ("stripes", "1", "level", "unavailable", "not that of the missing and the homeless fragments"),
+    ("stripes", "1", "level", "lost", "not that of the missing and the homeless fragments"),
+    ("stripes", "3", "level", "risk", "not that of the missing and the homeless fragments"),
+    ("stripes", "2", "level", "whole", "not that of the missing and the homeless fragments"),
+    ("stripes", "2", "level", "lost", "not that of the missing and the homeless fragments"),
+    ("stripes", "2", "margin", "0", "not that of the missing fragments"),
+    ("stripes", "1", "margin", "9", "not a number of its range, 0 to 3"),
+    ("stripes", "1", "margin", "2", "not that of the missing fragments"),
+    ("stripes", "3", "margin", "-", "not that of the missing fragments"),
+    ("stripes", "3", "missing", "0x0001", "not that of the missing fragments"),
+    ("stripes", "3", "missing_fragments", "junk", "not the list of the mask before it"),
+    ("stripes", "1", "missing_fragments", "0", "not the list of the mask before it"),
+    ("stripes", "1", "homeless", "0x0004", "not among the missing fragments"),
+    ("stripes", "1", "homeless_fragments", "", "not the list of the mask before it"),
+    ("stripes", "3", "home_0", "-", "not what the mask of the homeless fragments says"),
+    ("stripes", "1", "home_0", "0:0", "not what the mask of the homeless fragments says"),
+    ("stripes", "2", "home_10", "-", "a narrow stripe has no such fragment"),
+    ("stripes", "3", "home_9", "14:0", "the seat is held already"),
+    ("stripes", "3", "home_9", "14:2", "another fragment of the stripe rules the node out"),
+    ("stripes", "3", "home_9", "15:4", "the table of nodes has no such seat"),
+    ("stripes", "3", "home_9", "20:0", "the table of nodes has no such seat"),
+    ("stripes", "3", "home_9", "0:0", "the node of the seat is gone"),
+    ("stripes", "3", "home_9", "1:3", "not the homeless fragments and those whose node is not online in the table of nodes"),
+    ("leases", "2,4", "target", "15:1", "the seat is held already"),
+    ("leases", "2,4", "target", "0:1", "the node of the seat is gone"),
+    ("leases", "2,4", "target", "4:3", "another fragment of the stripe rules the node out"),
+    ("leases", "2,4", "holder", "9", "not a number of its range, 1 to 8"),
+    ("leases", "2,4", "epoch", "b", "not a number of its range, 1 to 4294967294"),
+    ("leases", "2,4", "epoch", "0", "not a number of its range, 1 to 4294967294"),
+    ("leases", "2,4", "expiry", "", "not a number of its range, 1 to 4294967294"),
+    ("fragments", "3,0", "slot", "0", "the seat is held already"),
+    ("fragments", "3,9", "slot", "4", "the table of nodes has no such seat"),
+    ("fragments", "3,9", "node", "20", "the table of nodes has no such seat"),
+    ("fragments", "3,9", "node", "0", "the node of the seat is gone"),
+    ("fragments", "2,9", "node", "15", "another fragment of the stripe rules the node out"),
+    ("fragments", "3,9", "fault", "77", NOT_SAID.format("'15'", 15)),
+    ("fragments", "3,9", "upgrade", "junk", NOT_SAID.format("'5'", 15)),
+    ("fragments", "3,9", "mode", "gone", NOT_SAID.format("'active'", 15)),
+    ("fragments", "3,9", "why", "xx", NOT_SAID.format("''", 15)),
+    ("fragments", "3,9", "state", "offline", NOT_SAID.format("'present'", 15)),
+    ("fragments", "1,1", "state", "present", NOT_SAID.format("'offline'", 1)),
+    ("fragments", "1,1", "why", "", NOT_SAID.format("'down'", 1)),
+    ("fragments", "1,0", "state", "present", "not a number of its range, 0 to 65535"),
+    ("fragments", "1,0", "state", "whole", "none of present, offline, homeless"),
+    ("fragments", "3,9", "state", "homeless", "a fragment without a home has none"),
+    ("fragments", "1,0", "mode", "active", "a fragment without a home has none"),
+    ("fragments", "2,4", "epoch", "b", "not a number of its range, 1 to 4294967294"),
+    ("fragments", "2,4", "target", "4:3", "another fragment of the stripe rules the node out"),
+    ("fragments", "2,4", "target", "", "there is no lease"),
+    ("fragments", "1,0", "epoch", "1", "there is no lease"),
+    ("nodes", "0", "fault", "256", "not a number of its range, 0 to 255"),
+]
+# The column that is refused where it is another one than was changed.
+REFUSED_AT = {("3", "missing"): "margin", ("1,0", "state", "present"): "node", ("3,9", "state", "homeless"): "node",
+              ("2,4", "target", ""): "holder", ("3", "home_9", "1:3"): "missing"}
+
+
+def right_store():
+    """A store with both codes, stripes that are whole, at risk and unavailable, nodes of each mode, some down, and leases."""
+    store = Store({number: Node(number, number % 10, 4) for number in range(20)})
+    for line in ("place 1", "place6 2", "place6 3", "drain 12", "fail 0", "down 1", "lease 2 4", "lease 3 6", *(f"down {node}" for node in (17, 18, 19))):
+        assert store.call(1, line).split(" ")[0] != "refused", line
+    return store
+
+
+def changed_line(text, where, column, word):
+    """A table with another word in the line that begins so; the number of that line, and the words that it has now."""
+    lines = text.splitlines()
+    names = lines[0].split(",")
+    at = next(at for at, line in enumerate(lines) if line.startswith(f"{where},"))
+    fields = dict(zip(names, lines[at].split(","))) | {column: word}
+    lines[at] = ",".join(fields.values())
+    return "\n".join([*lines, ""]), at + 1, fields
+
+
+def written(folder, tables):
+    """The paths of tables that are written there."""
+    for name, text in tables.items():
+        with open(f"{folder}/{name}.csv", "w", encoding="utf-8") as file:
+            file.write(text)
+    return {name: f"{folder}/{name}.csv" for name in tables}
+
+
+def refusal(folder, tables):
+    """What the tool refuses of tables, or None."""
+    with unittest.mock.patch.object(sys, "argv", [TOOL, *written(folder, tables).values()]):
+        try:
+            with contextlib.redirect_stdout(io.StringIO()):
+                tool().main()
+        except tool().Refused as why:
+            return str(why).removeprefix(f"{folder}/")
+    return None
+
+
+def refuse_changed(count):
+    """Each column of a right table that is changed is refused."""
+    store = right_store()
+    tables = {view: shown.shown(view, store, 0) for view in VIEWS} | {"fragments": fragments_table(store)}
+    given = {False: VIEWS, True: ("nodes", "fragments")}
+    with tempfile.TemporaryDirectory(prefix="lrcman-balance-") as folder:
+        for names in given.values():
+            told = refusal(folder, {name: tables[name] for name in names})
+            count.check(f"right tables are refused: {told}", told is None)
+        for view, where, column, word, why in CHANGED:
+            text, line, fields = changed_line(tables[view], where, column, word)
+            at = REFUSED_AT.get((where, column, word)) or REFUSED_AT.get((where, column), column)
+            told = refusal(folder, {name: tables[name] for name in given[view == "fragments"]} | {view: text})
+            right = f"{view}.csv: line {line}, column {at}: {why}: {fields[at]!r}"
+            count.check(f"{view} {where} {column} {word}: {told}, and not {right}", told == right)
+        twice = tables["leases"] + tables["leases"].splitlines()[1] + "\n"
+        told = refusal(folder, {name: tables[name] for name in VIEWS} | {"leases": twice})
+        count.check(f"a lease twice: {told}", told == "leases.csv: line 4, column fragment: a lease that is there twice: '4'")
+
+
+def read_right(count):
+    """No table of a store is refused: stores of drawn calls, after which up to eight nodes fail."""
+    levels = set()
+    with tempfile.TemporaryDirectory(prefix="lrcman-balance-") as folder:
+        for seed in range(LONG):
+            row, nodes = draws.numbers(seed), harness.nodes_in_order(24, 3)
+            store, within = Store(nodes), draws.Range(8, [*nodes, 99], [*range(10), 77])
+            for _ in range(40 + seed):
+                store.call(*draws.drawn_call(store, row, within))
+            for node in random.Random(seed).sample(sorted(nodes), seed % 9):  # (so that some are lost)
+                store.call(1, f"fail {node}")
+            tables = {view: shown.shown(view, store, 0) for view in VIEWS} | {"fragments": fragments_table(store)}
+            paths = written(folder, tables)
+            try:
+                nodes = tool().nodes_of(paths["nodes"])
+                by_row = tool().stripes_of(paths["stripes"], paths["leases"], nodes)
+                by_fragment = tool().stripes_of(paths["fragments"], None, nodes)
+                tool().Store(nodes, by_row)
+                right = [{number: vars(stripe) for number, stripe in stripes.items()} for stripes in (by_row, by_fragment)]
+                count.check(f"store {seed}: other stripes by fragment", right[0] == right[1])
+            except tool().Refused as why:
+                count.check(f"store {seed}: {why}", False)
+            levels |= {store.level(stripe) or "whole" for stripe in store.stripes}
+    count.check(f"the stores have stripes that are {levels}", levels == {"whole", "risk", "unavailable", "lost"})
+
+
 def refuse(count):
+    refuse_changed(count)
     for texts, why in BAD:
         with tempfile.TemporaryDirectory(prefix="lrcman-balance-") as folder:
             names = "nodes.csv", "stripes.csv", "leases.csv"
@@ -389,6 +535,7 @@ def main(words):
     program, count = harness.program_of(words[words[:1] in (["--long"], ["--write"]):]), harness.Count()
     drawn(count, program, LONG if is_long else DRAWN)
     new_rack(count, program)
+    read_right(count)
     refuse(count)
     return count.report()
 
