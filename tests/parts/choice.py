@@ -15,7 +15,7 @@ from tests.parts import parts
 
 EACH = "house choice lists"  # each change runs these
 QUICK = "compare sweep pictures replay show recipes takeover balance"  # parts over the program that have a quick form
-FULL = "sweep replay show limits packages bench budget"  # those over the program that a proved one is wanted for
+FULL = "sweep replay show limits packages bench budget tables"  # those over the program that a proved one is wanted for
 LIBRARY = "limits embed views bytes beside stores service cluster packages"
 ROWS = [
     # Pages.
@@ -29,8 +29,8 @@ ROWS = [
     # Tests, and what they import.
     ("tests/program/recipes", "recipes", ""),
     ("tests/program/show.py", "show", ""),
-    ("tests/model/rules.py", "sweep growth pictures replay show recipes takeover balance compare limits embed views bytes beside stores service cluster packages bench budget edits believe tried", ""),
-    ("tests/model/draws.py", "replay show pictures views beside stores bench budget", ""),
+    ("tests/model/rules.py", "sweep growth pictures replay show recipes takeover balance compare limits embed views bytes beside stores service cluster packages bench budget tables edits believe tried", ""),
+    ("tests/model/draws.py", "replay show pictures balance views beside stores service cluster bench budget", ""),
     ("tests/program/calls.c", "sweep growth", ""),
     ("tests/library/restarts.py", "beside", ""),
     ("tests/stores/store_sqlite.py", "stores", ""),
@@ -39,6 +39,7 @@ ROWS = [
     ("tools/balance", "recipes balance cluster service", ""),
     ("bench/budget", "budget", ""),
     ("bench/kinds.py", "bench budget", ""),
+    ("bench/show.py", "tables", ""),
     ("tests/service/limits.py", "service", ""),
     ("run-tests", "", ""),
     # Examples.
@@ -65,7 +66,7 @@ ROWS = [
     ("crates/lrc_rules/must-fail/a_new_one.edit", "edits", "proofs"),
     ("crates/lrcman/stdout", "edits", "proofs"),
     # Together.
-    ("crates/lrc_show/src/status.rt tests/program/show docs/SPEED.md", f"edits believe tried {QUICK}", "proofs sweep replay limits packages bench budget embed views bytes beside stores service cluster"),
+    ("crates/lrc_show/src/status.rt tests/program/show docs/SPEED.md", f"edits believe tried {QUICK}", "proofs sweep replay limits packages bench budget tables embed views bytes beside stores service cluster"),
     # What no part looks at.
     (".gitignore", "", ""),
 ]
