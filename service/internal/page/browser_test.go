@@ -109,24 +109,12 @@ func checkDOM(t *testing.T, name, dom string, b *recorded.Book) {
 			t.Errorf("%s: the page shows %q for %s, and the model has %d", name, facts[fact], fact, value)
 		}
 	}
-	offline, atRisk := 0, 0
-	for _, node := range b.Nodes {
-		if !node.Online {
-			offline++
-		}
-		told := fmt.Sprintf("node %d: fault domain %d, upgrade domain %d, %s, ", node.Node, node.Fault, node.Upgrade, node.Mode)
-		if !strings.Contains(dom, told) || !strings.Contains(dom, fmt.Sprintf(`id="node-%d"`, node.Node)) {
-			t.Errorf("%s: the picture lacks %s", name, told)
-		}
-	}
+	atRisk := 0
+	checkTiles(t, name, dom, b)
 	for _, stripe := range b.Stripes {
 		if stripe.Level != "whole" {
 			atRisk++
 		}
-	}
-	// (one more stands in the legend twice: a node that is gone, and one that is not online)
-	if shown := len(regexp.MustCompile(`class="node [a-z]+ offline"`).FindAllString(dom, -1)) - 2; shown != offline {
-		t.Errorf("%s: %d nodes are shown as not online, and the model has %d", name, shown, offline)
 	}
 	if shown := strings.Count(dom, `class="level `); shown != atRisk {
 		t.Errorf("%s: %d stripes are shown at risk, and the model has %d", name, shown, atRisk)
@@ -139,6 +127,96 @@ func checkDOM(t *testing.T, name, dom string, b *recorded.Book) {
 	if !strings.Contains(dom, "<code>"+last.Command+"</code>") || !strings.Contains(dom, "<code>"+last.Reply+"</code>") {
 		t.Errorf("%s: the last command is not shown: %+v", name, last)
 	}
+}
+
+// nodeOf is the node of a seat, or of the home of a fragment; "" where it has none.
+func nodeOf(seat string) string {
+	node, _, _ := strings.Cut(strings.TrimPrefix(seat, "-"), ":")
+	return node
+}
+
+// heldOn are how many targets of leases are on each node, and how many homes of fragments that are leased.
+func heldOn(b *recorded.Book) (targets, leaving map[string]int) {
+	targets, leaving = map[string]int{}, map[string]int{}
+	for _, lease := range b.Leases {
+		targets[nodeOf(lease.Target)]++
+		for _, stripe := range b.Stripes {
+			if stripe.Stripe == lease.Stripe {
+				leaving[nodeOf(stripe.Homes[lease.Fragment])]++
+			}
+		}
+	}
+	return targets, leaving
+}
+
+// markOf are the elements by which tools/picture marks what is the matter with a node too.
+var markOf = map[string]string{"draining": "hatch", "gone": "cross", "full": "full-mark", "down": "barred", "upgrading": "arrow"}
+
+// checkTiles looks whether the tile of each node, and its row, have its words and marks, and homes and targets as high as they are many.
+func checkTiles(t *testing.T, name, dom string, b *recorded.Book) {
+	targets, _ := heldOn(b)
+	rows := rowsIn(dom, "nodes")
+	for i, node := range b.Nodes {
+		matters := []string{node.Mode}
+		for _, one := range []struct {
+			word string
+			is   bool
+		}{{"full", node.Load == uint32(node.Slots)}, {"down", node.Down}, {"upgrading", fmt.Sprint(node.Upgrade) == b.Status["upgrading"]}} {
+			if one.is {
+				matters = append(matters, one.word)
+			}
+		}
+		online, aims := "not online", targets[fmt.Sprint(node.Node)]
+		if node.Online {
+			online = "online"
+		}
+		state := strings.Join(append(matters, online), ", ")
+		head := fmt.Sprintf(`<g id="node-%d" class="node %s"><title>node %d: fault domain %d, upgrade domain %d, %s, %d homes and %d targets in %d slots</title>`,
+			node.Node, strings.Join(matters, " "), node.Node, node.Fault, node.Upgrade, state, int(node.Load)-aims, aims, node.Slots)
+		_, tile, isThere := strings.Cut(dom, head)
+		tile, _, _ = strings.Cut(tile, "</g>")
+		if !isThere || rows[i][3] != state {
+			t.Errorf("%s: the picture lacks %s, or the table has %v", name, head, rows[i])
+			continue
+		}
+		for word, mark := range markOf {
+			if strings.Contains(tile, `class="`+mark+`"`) != strings.Contains(strings.Join(matters, " "), word) {
+				t.Errorf("%s: node %d is %s, and its tile is %s", name, node.Node, state, tile)
+			}
+		}
+		for class, count := range map[string]int{"fill": int(node.Load) - aims, "targets": aims} {
+			high, _ := strconv.Atoi(regexp.MustCompile(`height="(\d+)" class="` + class + `"`).FindStringSubmatch(tile)[1])
+			if far := float64(high) - 34*float64(count)/float64(node.Slots); far > 2 || far < -2 || count == 0 && high > 0 {
+				t.Errorf("%s: node %d has %d of %d slots as %s, drawn %d high", name, node.Node, count, node.Slots, class, high)
+			}
+		}
+	}
+}
+
+// Each thing that is the matter with a node has a mark of its own, also beside others.
+func TestEachMatterOfANodeHasItsMark(t *testing.T) {
+	one := load(t, "upgrade")["upgrade"]
+	for i := range one.Nodes {
+		node := &one.Nodes[i]
+		isUpgrading := fmt.Sprint(node.Upgrade) == one.Status["upgrading"]
+		if i%3 == 0 {
+			node.Load = uint32(node.Slots)
+		}
+		if node.Mode == "active" && i%4 == 3 {
+			node.Mode = "gone"
+		}
+		node.Down = node.Mode != "gone" && (i%5 == 0 || node.Mode == "draining")
+		node.Online = node.Mode != "gone" && !node.Down && !isUpgrading
+	}
+	one.Leases = one.Leases[:0]
+	for i := 0; i < 4; i++ { // (of the first two nodes, so much that it can be seen)
+		one.Leases = append(one.Leases, recorded.Lease{Stripe: one.Stripes[0].Stripe, Fragment: uint8(i), Session: 1,
+			Target: fmt.Sprintf("%d:%d", one.Nodes[i/3].Node, i), Epoch: 1, Expiry: uint32(one.Value("clock")) + 1})
+		one.Nodes[i/3].Load, one.Nodes[i/3].Slots = 4, 4
+	}
+	dom := serveOnce(t, pageOf(recorded.Books{"p0": one}), "").look(t, "/", 2)
+	checkTiles(t, "changed nodes", dom, one)
+	checkBalance(t, "changed nodes", dom, one)
 }
 
 // rowsIn are the cells of the table in an element of the page.
@@ -248,10 +326,13 @@ func TestThePageSaysAsOfWhichEntryItsCapacityIs(t *testing.T) {
 	}
 }
 
-// checkBalance looks whether each node that takes fragments is there once, the fullest by share first, with its way from the mean share.
+// checkBalance looks whether each node that takes fragments is there once, the fullest by share first, with its way from the mean share,
+// with what is on it once all leases are reported.
 func checkBalance(t *testing.T, name, dom string, b *recorded.Book) {
 	able, load, slots := map[string]recorded.Node{}, 0, 0
+	_, leaving := heldOn(b)
 	for _, node := range b.Nodes {
+		node.Load -= uint32(leaving[fmt.Sprint(node.Node)]) // (as all leases leave it)
 		if node.Mode == "active" && node.Online {
 			able[fmt.Sprint(node.Node)] = node
 			load, slots = load+int(node.Load), slots+int(node.Slots)

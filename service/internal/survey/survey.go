@@ -88,7 +88,7 @@ type Work struct {
 // All is the number of fragments that need a lease.
 func (w Work) All() int { return w.Leased + w.Open + w.NoNode + w.Unrecoverable }
 
-// A Node is a row of the table of nodes.
+// A Node is a row of the table of nodes. Leaving counts the homes on it that live leases move away.
 type Node struct {
 	Node    uint16 `json:"node"`
 	Fault   uint8  `json:"fault"`
@@ -97,6 +97,8 @@ type Node struct {
 	Online  bool   `json:"online"`
 	Down    bool   `json:"down"`
 	Load    uint32 `json:"load"`
+	Targets uint32 `json:"targets"`
+	Leaving uint32 `json:"leaving"`
 	Slots   uint16 `json:"slots"`
 }
 
@@ -138,8 +140,8 @@ func take(name string, v View) (*Report, error) {
 		if row.Mode == book.Draining {
 			draining.add(row.Number)
 		}
-		report.Nodes = append(report.Nodes, Node{row.Number, row.Fault, row.Upgrade, row.Mode.String(), row.IsOnline == 1,
-			row.IsDown == 1, row.Load, row.Slots})
+		report.Nodes = append(report.Nodes, Node{Node: row.Number, Fault: row.Fault, Upgrade: row.Upgrade, Mode: row.Mode.String(),
+			Online: row.IsOnline == 1, Down: row.IsDown == 1, Load: row.Load, Slots: row.Slots})
 	}
 	if err := report.leases(v); err != nil {
 		return nil, err
@@ -172,6 +174,7 @@ func (r *Report) leases(v View) error {
 	if err != nil {
 		return err
 	}
+	targets, leaving := map[uint16]uint32{}, map[uint16]uint32{}
 	workers := map[book.FragmentID]string{}
 	for _, holder := range holders {
 		workers[book.FragmentID{Stripe: holder.Stripe, Number: holder.Fragment}] = holder.Worker
@@ -183,6 +186,17 @@ func (r *Report) leases(v View) error {
 			lease.Ticks = book.LeaseTicks - left
 		}
 		r.Leases = append(r.Leases, lease)
+		homes, err := v.Homes(row.Stripe)
+		if err != nil {
+			return err
+		}
+		targets[row.Target.Node]++
+		if home := homes[row.Fragment]; home.IsThere == 1 {
+			leaving[home.Seat.Node]++
+		}
+	}
+	for i, node := range r.Nodes {
+		r.Nodes[i].Targets, r.Nodes[i].Leaving = targets[node.Node], leaving[node.Node]
 	}
 	return nil
 }
