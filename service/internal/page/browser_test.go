@@ -199,9 +199,7 @@ func TestEachMatterOfANodeHasItsMark(t *testing.T) {
 	for i := range one.Nodes {
 		node := &one.Nodes[i]
 		isUpgrading := fmt.Sprint(node.Upgrade) == one.Status["upgrading"]
-		if i%3 == 0 {
-			node.Load = uint32(node.Slots)
-		}
+		node.Load = uint32(node.Slots) - uint32(i%3)
 		if node.Mode == "active" && i%4 == 3 {
 			node.Mode = "gone"
 		}
