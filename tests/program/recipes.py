@@ -5,8 +5,9 @@ Usage: tests/program/recipes [PROGRAM], by default the program that `rt ci` or `
 - The recipe that makes a file shorter is run three days in a row. After each day the topology is the one of the first day,
   each table of `show` is that of the whole history, and `resume` of the day's file prints the replies and tables that `run`
   of the whole history prints for the day's commands. A file that is refused is left as it was.
-- The functions of "A month" are run on three days in a row, on a store on which things go wrong: they print what the model of
-  tests/model has, and leave the store as the model is after the same commands.
+- The functions of "A month" are each run on three days in a row, on a store on which things go wrong, of which no two mornings are
+  the same: they print what the model of tests/model has, and leave the store as the model is after the same commands. Rounds of
+  `even` end when no lawful move helps, by the model. Each day's backup has the store as it was then.
 - The table of "How much fits" is that of thirty drawn topologies, by the model, and the program refuses the same stripe of each.
 - What `docs/lrcman.bash` completes are the words of the usage, tables that the program shows, and the words for domains. The
   manual page has the words of docs/FORMATS.md for each line of refused input.
@@ -27,8 +28,12 @@ from tests.model import shown
 from tests.model.rules import Node
 from tests.model.shown import VIEWS
 from tests.model.store import Store
+from tests.program.balance import distances, helping_move, spread
 
 RENEWAL = "lrcman image < store.sequel"
+FUNCTIONS = ["renew", "plan", "tell", "show", "health", "forecast", "come", "fits", "backup", "morning", "safe", "leave", "night",
+             "each", "stop", "start", "lose", "empty", "even"]
+RACKS, MOST_ROUNDS = 20, 20
 KINDS = "24", "12 to 36", "6 to 48"  # of topologies, by the slots of their nodes
 DAYS = (
     ["place 1", "place6 2", "fail 3", "lease 1 3", "tick"],
@@ -46,7 +51,6 @@ PRINTS = {
     "for table in nodes stripes status leases; do lrcman show $table < store.bundle > $table.csv || exit 1; done": "",
     "lrcman show stripes < store.bundle > stripes.csv || exit 1": "",
     "lrcman show nodes < nodes.toml > nodes.csv || exit 1": "",
-    "for table in nodes stripes leases; do lrcman show $table < store.sequel > $table.csv || exit 1; done": None,
 }
 # A store that is taken over, by tools/takeover: one stripe, of whose fragments 12 is in the upgrade domain of 5.
 TAKEN_OVER = [0, 1, 2, 3, 4, 5, 6, 7, 8, 9, 10, 11, 15, 12, 13, 14]
@@ -107,28 +111,40 @@ def renew(count, shell, recipe):
         for view in VIEWS:
             tables = [shell.lrcman(f"show {view}", given) for given in (whole, file)]
             count.check(f"day {day}: `show {view}` is not that of the whole history", tables[0].stdout and tables[0].stdout == tables[1].stdout)
-        ran = shell.run(recipe)
+        ran = shell.run(f"{recipe}renew")
         count.check(f"day {day}: the recipe ends with {ran.returncode}: {ran.stderr}", ran.returncode == 0)
         count.check(f"day {day}: the nodes are others", shell.read("nodes.toml") == topology)
     kept = shell.read("store.sequel") + b"place x\n"
     shell.write("store.sequel", kept)
-    ran = shell.run(recipe)
+    ran = shell.run(f"{recipe}renew")
     count.check("a refused file is renewed", ran.returncode == 1 and shell.read("store.sequel") == kept)
     count.check(f"a refused file is told as {ran.stderr!r}", re.fullmatch(r"lrcman: .*: line [0-9]+ cause 3\n", ran.stderr))
 
 
-def harmed_by(store, domain):
-    """The rows of the stripes that an upgrade of a domain would harm."""
-    table, _ = shown.forecast("may-stop", store, [node for node in store.nodes if store.nodes[node].upgrade == domain])
-    return [line for line in table.splitlines() if line.endswith(",yes")]
+def columns(rows):
+    """Rows as `lrcmand ctl` prints them: each column as wide as its longest cell and two letters more."""
+    widths = [max(len(str(row[at])) for row in rows) + 2 for at in range(len(rows[0]) - 1)]
+    return ["".join(f"{cell:<{width}}" for cell, width in zip(map(str, row), [*widths, 0])).rstrip() for row in rows]
+
+
+def placed_over(nodes):
+    """How many wide stripes the model places over nodes before the first refusal."""
+    store, stripe = Store(nodes), 0
+    while store.call(1, f"place {stripe}").startswith("placed"):
+        stripe += 1
+    return stripe
 
 
 class Month:
     """A store with the functions of the page, and the model beside it."""
 
     def __init__(self, count, program, folder):
-        self.count, self.shell, self.store, self.made = count, Shell(program, folder), Store(harness.nodes_in_order(20, 4)), 0
+        self.count, self.shell, self.made = count, Shell(program, folder), 0
+        self.store = Store({2 * rack + at: Node(rack, (rack + 5 * at) % 10, 4) for rack in range(RACKS) for at in (0, 1)})
         self.functions = "".join(recipe for recipe in recipes() if re.match(r"\w+\(\) \{\n", recipe))
+        self.mornings, self.backups = [], {}  # what `morning` printed; the name of a backup: the image of the model then
+        self.shell.write("bin/date", b"#!/bin/sh\necho $DAY\n")
+        os.chmod(f"{folder}/bin/date", 0o755)
         self.begin()
 
     def begin(self):
@@ -145,17 +161,24 @@ class Month:
         self.count.check("a bad command is appended", ran.returncode == 1 and self.shell.read("store.sequel") == kept)
         self.count.check(f"a bad command is told as {ran.stderr}", re.fullmatch("line [0-9]+ cause 3\n", ran.stderr))
 
+    def refuse_nodes(self):
+        """A rack of which a node is there already does not come."""
+        self.shell.write("rack.toml", harness.topology_of({0: Node(99, 0, 4)}).encode())
+        self.run("come rack.toml", [], status=1)
+
     def run(self, call, printed, commands=(), status=0):
         """A function prints this, and makes these commands."""
         ran = self.shell.run(f"{self.functions}{call}")
         replies = [self.store.call(1, command) for command in commands]
         wanted = "".join(f"{line}\n" for line in printed)
         self.made += len(commands)
-        self.count.check(f"{call}: {ran.returncode} {ran.stdout!r} {ran.stderr}", (ran.returncode, ran.stdout) == (status, wanted))
+        self.count.check(f"{call}: {ran.returncode} {ran.stdout!r} {ran.stderr}, and not {status} {wanted!r}",
+                         (ran.returncode, ran.stdout) == (status, wanted))
         self.compare(f"{call}: another store, after {replies}")
 
-    def compare(self, name):
-        self.count.check(name, self.table("nodes") == shown.shown("nodes", self.store, self.made))
+    def compare(self, name, views=("nodes",)):
+        for view in views:
+            self.count.check(f"{name}: {view}", self.table(view) == shown.shown(view, self.store, self.made))
 
     def replies_to(self, commands):
         """What is printed of commands, by a copy of the model."""
@@ -169,50 +192,218 @@ class Month:
     def tell(self, *commands):
         self.make("tell " + " ".join(f"'{command}'" for command in commands), *commands)
 
-    def urgent(self):
-        """The rows of levels that a stripe should not have."""
-        names = "at_risk_margin_0", "unavailable", "lost"
-        return [f"{name},{value}" for name, value in shown.status_rows(self.store, 0) if name in names and value]
+    def in_rack(self, rack):
+        """The nodes of a rack that are not gone."""
+        return [node for node, info in self.store.nodes.items() if info.fault == rack and self.store.mode[node] != "gone"]
+
+    def harmed(self, word, kind, domain):
+        """The rows of the stripes that an outage of a domain would harm."""
+        table, _ = shown.forecast(word, self.store, shown.nodes_of(self.store, [kind, domain]))
+        return [line for line in table.splitlines() if line.endswith(",yes")]
+
+    def unsafe(self, word, kind):
+        """A domain that may not go, with the stripes that this would harm."""
+        for domain in sorted({getattr(node, kind) for node in self.store.nodes.values()}):
+            if rows := self.harmed(word, kind, domain):
+                return domain, rows
+        raise RuntimeError(f"each {kind} domain may go")
+
+    # What the page has, beside what the model says.
+
+    def health(self):
+        """The reasons why not all is well, as they are printed."""
+        return shown.shown("health", self.store, self.made).splitlines()
+
+    def morning(self):
+        down, is_danger = len(self.store.down), shown.is_in_danger(self.store)
+        printed = [f"{down} nodes are down"] * bool(down) + self.health()
+        self.run("morning", printed, status=4 if is_danger else 0)
+        self.mornings.append(printed)
+        return [row[0] for row in shown.health_rows(self.store)]
+
+    def night(self, domain):
+        self.run(f"night {domain}", self.replies_to([f"upgrade {domain}"]), [f"upgrade {domain}"])
+        rows = self.harmed("may-stop", "upgrade", domain + 1)
+        self.run(f"night {domain + 1}", rows, [] if rows else [f"upgrade {domain + 1}"], status=1)  # (one upgrades already)
+        self.tell(f"upgraded {domain}")
+
+    def work_on(self, rack):
+        """A rack stops, which the morning shows, and is back."""
+        self.make(f"stop {rack}", *(f"down {node}" for node in self.in_rack(rack) if node not in self.store.down))
+        self.run(f"stop {rack}", [])  # (its nodes are down)
+        self.morning()
+        self.make(f"start {rack}", *(f"up {node}" for node in self.in_rack(rack)))
+        self.run(f"start {rack}", [])
+
+    def lose(self, rack):
+        """Gives up a rack, and repairs."""
+        self.make(f"lose {rack}", *(f"fail {node}" for node in self.in_rack(rack)))
+        self.run(f"lose {rack}", [])
+
+    def repair(self):
+        """Workers ask and report until nothing is left."""
+        while self.replies_to(["next"])[0].split()[1] == "granted":
+            self.tell(*["next"] * 4)
+            self.report()
+
+    def report(self):
+        """Workers report what was leased."""
+        leases = sorted(self.store.leases.items())
+        self.tell(*(f"done {stripe} {fragment} {lease.epoch}" for (stripe, fragment), lease in leases))
+
+    def empty(self, rack):
+        """A day of a rack that is to leave."""
+        printed, commands = [], []
+        for node in self.in_rack(rack):
+            if self.store.mode[node] == "draining" and self.store.load(node):
+                printed.append("not yet empty")
+            else:
+                commands.append(f"{'retire' if self.store.mode[node] == 'draining' else 'drain'} {node}")
+                printed.append(self.replies_to(commands)[-1])
+        self.run(f"empty {rack}", printed, commands)
+
+    def come(self, nodes):
+        """Nodes join."""
+        self.shell.write("rack.toml", harness.topology_of(nodes).encode())
+        self.store, self.made = Store.begin({**self.store.nodes, **nodes}, self.store.image(self.made))
+        self.run("come rack.toml", [])
+
+    def even(self):
+        """Rounds of `even`, until it prints nothing."""
+        before, now, rounds = distances(self.store), ["now", "0", "0", *spread(self.store, 5)], 0
+        dry = [row.split(",") for row in self.shell.run(f"{self.functions}plan --dry").stdout.splitlines()]
+        self.count.check(f"plan --dry: {dry}, and not {now}", dry[1:2] == [now])
+        while rounds < MOST_ROUNDS:
+            ran = self.shell.run(f"{self.functions}even")
+            script = [line for line in self.shell.read("round.script").decode().splitlines() if line[:1] != "#"]
+            right = 0, "".join(f"{line}\n" for line in self.replies_to(script))
+            self.count.check(f"even: {ran.returncode} {ran.stdout!r} {ran.stderr}, and not {right}", (ran.returncode, ran.stdout) == right)
+            if not script:
+                break
+            rounds, self.made = rounds + 1, self.made + len(script)
+            for command in script:
+                self.store.call(1, command)
+            self.report()
+        after, move = distances(self.store), helping_move(self.store, 5)
+        is_even = max(map(abs, after.values())) < max(map(abs, before.values()))
+        self.count.check(f"{rounds} rounds: {after}; {move} would help", rounds and is_even and move is None)
+        self.count.check(f"plan --dry: {dry[-1]}", dry[-1][:2] + dry[-1][3:] == ["end", str(rounds), *spread(self.store, 5)])
+
+    def fits(self, there, bought):
+        """Nodes that are to be bought."""
+        self.shell.write("bought.toml", harness.topology_of({**there, **bought}).encode())
+        found = placed_over({**there, **bought})
+        self.run("fits bought.toml", [str(found)])
+        return found
+
+    def backup(self, day):
+        """A backup of a day takes the place of the one of that name."""
+        self.shell.environment["DAY"] = day
+        self.run("backup", [])
+        self.backups[day] = self.store.image(self.made)
+        names = sorted(name for name in os.listdir(self.shell.folder) if name.startswith("backup."))
+        self.count.check(f"the backups {names}", names == sorted(f"backup.{it}" for it in self.backups))
+
+    def restore(self):
+        """Each backup has the book as it was."""
+        for day, image in self.backups.items():
+            told = self.shell.lrcman("image", self.shell.read(f"backup.{day}")).stdout.decode()
+            self.count.check(f"the backup of {day} has {told}", told == image)
+
+
+def begin_day(it, day):
+    """What is done on each of three days, whatever happened before; returns the reasons that the morning tells."""
+    it.backup(day)
+    reasons = it.morning()
+    there = {number: Node(number % 16, number % 8, 4) for number in range(32)}
+    at = len(it.mornings)
+    in_racks = it.fits(there, {32 + number: Node(16 + number // 2, 8 + number % 4, 2 + at) for number in range(8)})
+    in_rows = it.fits(there, {32 + number: Node(number % 16, number % 8, 2 + at) for number in range(8)})
+    it.count.check(f"{day}: domains before nodes: {in_racks}, {in_rows}", in_racks > in_rows)
+    return reasons
+
+
+def end_day(it, rack, slots):
+    """A rack comes, of other slots each day, and is filled by shares; all tables are those of the model."""
+    it.come({2 * rack + at: Node(rack, (rack + 5 * at) % 10, slots) for at in (0, 1)})
+    it.even()
+    it.compare(f"the day of rack {rack}", [view for view in VIEWS if view != "capacity"])
 
 
 def first_day(it):
-    it.tell("place 1", "place6 2", "place 3")
-    it.run("morning", [])
+    it.tell("place 1", "place6 2", "place 3", "place 4")
+    reasons = begin_day(it, "Mon")
+    it.count.check(f"Monday: {reasons}", reasons == ["ok"])
+    it.night(3)
+    it.work_on(7)
+    it.lose(8)
+    it.repair()
+    end_day(it, RACKS, 6)
     it.make("leave 5", "drain 5")
-    it.make("night 3", "upgrade 3")
-    it.run("night 4", harmed_by(it.store, 4), status=1)  # (`upgrade 3` runs)
-    it.tell("upgraded 3", "down 9")
+    it.empty(9)
+    it.tell("fail 0", "down 22")
 
 
 def second_day(it):
-    it.run("morning", ["1 nodes are down"])
+    reasons = begin_day(it, "Tue")
+    it.count.check(f"Tuesday: {reasons}", {"margin_2", "waiting"} <= set(reasons))
     it.run("leave 5", ["not yet empty"])
-    it.tell(*["next"] * 3, "up 9")
-    it.tell(*(f"done {stripe} {fragment} {lease.epoch}" for (stripe, fragment), lease in sorted(it.store.leases.items())))
+    it.empty(9)
+    it.tell("up 22")
+    it.repair()
     it.make("leave 5", "retire 5")
-    it.run("leave 5", [], status=1)  # (it is gone)
-    it.tell("fail 0", "fail 1", "down 2")
+    it.empty(9)
+    it.night(4)
+    it.work_on(10)
+    it.lose(12)
+    it.repair()
+    end_day(it, RACKS + 1, 8)
+    homes = [it.store.homes[1, fragment][0] for fragment in range(3)]
+    it.tell(f"fail {homes[0]}", f"fail {homes[1]}", f"down {homes[2]}", "next")
 
 
 def third_day(it):
-    it.run("morning", ["1 nodes are down", *it.urgent()], status=1)
-    it.run("night 3", harmed_by(it.store, 3), status=1)
-    it.count.check("nothing would be harmed on the third day", it.urgent() and harmed_by(it.store, 3))
-    it.tell("fail 3", *(f"drain {node}" for node in range(4, 20)))
-    homeless = [f"no node for {row[0]} {row[1]}" for row in shown.work_rows(it.store) if row[5] == "no_node"]
-    it.run("morning", ["1 nodes are down", *it.urgent(), *homeless], status=1)
-    it.count.check("every fragment finds a node on the third day", homeless)
+    reasons = begin_day(it, "Wed")
+    it.count.check(f"Wednesday: {reasons}", {"margin_0", "waiting"} <= set(reasons))
+    it.run("leave 5", [], status=1)  # (it is gone)
+    it.empty(9)  # (it prints nothing)
+    for call, *asked in (("night", "may-stop", "upgrade"), ("stop", "may-stop", "fault"), ("lose", "may-lose", "fault"),
+                         ("empty", "may-lose", "fault")):
+        domain, rows = it.unsafe(*asked)
+        it.run(f"{call} {domain}", rows, status=1)
+        it.run(f"{call} 99", [], status=2)  # (there is no such domain)
+    it.report()
+    it.repair()
+    it.night(6)
+    it.work_on(11)
+    it.lose(13)
+    it.repair()
+    end_day(it, RACKS + 2, 8)
+    places = [f"place {stripe}" for stripe in range(5, 20)]
+    it.tell(*places[:[reply.split()[1] for reply in it.replies_to(places)].index("refused") + 1])
+    it.tell(*(f"fail {it.store.homes[3, fragment][0]}" for fragment in range(3)))
+    it.tell(*(f"drain {node}" for node in sorted(it.store.nodes_in("active")) if it.store.load(node) < it.store.nodes[node].slots))
+    reasons = it.morning()
+    it.count.check(f"Wednesday evening: {reasons}", {"margin_0", "no_node", "fault_domains", "slots"} <= set(reasons))
     it.refuse()
+    it.refuse_nodes()
+    it.backup("Mon")
+    it.restore()
+
+
+def three_days(it):
+    """Three days of a store on which nodes and racks are lost, stop, leave and come, and domains are upgraded."""
+    for day in (first_day, second_day, third_day):
+        day(it)
+    it.count.check(f"two mornings are the same: {it.mornings}", len(set(map(tuple, it.mornings))) == len(it.mornings))
 
 
 def month(count, program):
-    """Three days of a store on which nodes are lost, one leaves, and domains are upgraded."""
     with tempfile.TemporaryDirectory(prefix="lrcman-recipes-") as folder:
         it = Month(count, program, folder)
         names = re.findall(r"^(\w+)\(\)", it.functions, re.MULTILINE)
-        count.check(f"the functions of the month are {names}", names == ["tell", "show", "forecast", "morning", "leave", "night"])
-        for day in (first_day, second_day, third_day):
-            day(it)
+        count.check(f"the functions of the month are {names}", names == FUNCTIONS)
+        three_days(it)
 
 
 def drawn_topology(seed):
