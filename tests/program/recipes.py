@@ -138,6 +138,8 @@ def placed_over(nodes):
 class Month:
     """A store with the functions of the page, and the model beside it."""
 
+    refusal = 1  # the status of `come` for nodes that are refused
+
     def __init__(self, count, program, folder):
         self.count, self.shell, self.made = count, Shell(program, folder), 0
         self.store = Store({2 * rack + at: Node(rack, (rack + 5 * at) % 10, 4) for rack in range(RACKS) for at in (0, 1)})
@@ -164,7 +166,7 @@ class Month:
     def refuse_nodes(self):
         """A rack of which a node is there already does not come."""
         self.shell.write("rack.toml", harness.topology_of({0: Node(99, 0, 4)}).encode())
-        self.run("come rack.toml", [], status=1)
+        self.run("come rack.toml", [], status=self.refusal)
 
     def run(self, call, printed, commands=(), status=0):
         """A function prints this, and makes these commands."""
