@@ -9,6 +9,7 @@ Usage: tests/program/recipes [PROGRAM], by default the program that `rt ci` or `
   the same: they print what the model of tests/model has, and leave the store as the model is after the same commands. Rounds of
   `even` end when no lawful move helps, by the model. Each day's backup has the store as it was then.
 - The table of "How much fits" is that of thirty drawn topologies, by the model, and the program refuses the same stripe of each.
+- The hours that all rounds of `even` take are those of the formula.
 - What `docs/lrcman.bash` completes are the words of the usage, tables that the program shows, and the words for domains. The
   manual page has the words of docs/FORMATS.md for each line of refused input.
 - Each other recipe has to end well on the file of a small store, and to print what is said of it below.
@@ -443,6 +444,20 @@ def capacity(count, program):
     count.check(f"the page has not: {words}", words in " ".join(page.split()))
 
 
+def hours(count):
+    """The page has how long all rounds take, by the numbers of its own tables."""
+    page = read(f"{TOP}/docs/OPERATING.md").decode()
+    (rounds,) = re.findall(r"^    end,([0-9]+),", page, re.MULTILINE)
+    (at_once,) = re.findall(r"No node has more than (\w+) leases at a time", page)
+    at_once = ("one", "two", "three", "four").index(at_once) + 1
+    ((megabytes, rate, told),) = re.findall(r"^\| ([0-9,]+) MB \| ([0-9]+) MB/s \| (.*) \|$", page, re.MULTILINE)
+    size, rate = int(megabytes.replace(",", "")), int(rate)
+    seconds = int(rounds) * at_once * size / rate
+    right = (f"{rounds} * {at_once} * {megabytes} / {rate} = {seconds:,.0f} s, {seconds / 3600:.1f} hours | "
+             f"{at_once} * {megabytes} / {rate} / 2 = {at_once * size / rate / 2:,.0f} s")
+    count.check(f"the page has {told}, and not {right}", told == right)
+
+
 def completed(words):
     """What bash offers for the last of these words."""
     script = (f". {TOP}/docs/lrcman.bash; COMP_WORDS=({' '.join(words)} ''); COMP_CWORD={len(words)}; _lrcman; "
@@ -501,6 +516,7 @@ def main(words):
                 count.check(f"{first}: the store begins with {told}", ",risk,2,0x1000,12," in told)
     month(count, program)
     capacity(count, program)
+    hours(count)
     completion(count, program)
     manual(count)
     return count.report()
