@@ -33,7 +33,7 @@ from tests.program.balance import distances, helping_move, spread
 
 RENEWAL = "lrcman image < store.sequel"
 FUNCTIONS = ["renew", "plan", "tell", "show", "health", "forecast", "come", "fits", "backup", "morning", "safe", "leave", "night",
-             "each", "stop", "start", "lose", "empty", "even"]
+             "members", "each", "stop", "start", "lose", "empty", "even"]
 RACKS, MOST_ROUNDS = 20, 20
 KINDS = "24", "12 to 36", "6 to 48"  # of topologies, by the slots of their nodes
 DAYS = (
@@ -195,9 +195,9 @@ class Month:
     def tell(self, *commands):
         self.make("tell " + " ".join(f"'{command}'" for command in commands), *commands)
 
-    def in_rack(self, rack):
-        """The nodes of a rack that are not gone."""
-        return [node for node, info in self.store.nodes.items() if info.fault == rack and self.store.mode[node] != "gone"]
+    def members(self, kind, domain):
+        """The nodes of a domain that are not gone."""
+        return [node for node in shown.nodes_of(self.store, [kind, domain]) if self.store.mode[node] != "gone"]
 
     def harmed(self, word, kind, domain):
         """The rows of the stripes that an outage of a domain would harm."""
@@ -230,18 +230,20 @@ class Month:
         self.run(f"night {domain + 1}", rows, [] if rows else [f"upgrade {domain + 1}"], status=1)  # (one upgrades already)
         self.tell(f"upgraded {domain}")
 
-    def work_on(self, rack):
-        """A rack stops, which the morning shows, and is back."""
-        self.make(f"stop {rack}", *(f"down {node}" for node in self.in_rack(rack) if node not in self.store.down))
-        self.run(f"stop {rack}", [])  # (its nodes are down)
+    def work_on(self, kind, domain):
+        """A domain stops, which the morning shows, and is back."""
+        nodes = self.members(kind, domain)
+        self.make(f"stop {kind} {domain}", *(f"down {node}" for node in nodes))
+        self.run(f"stop {kind} {domain}", [])  # (its nodes are down)
         self.morning()
-        self.make(f"start {rack}", *(f"up {node}" for node in self.in_rack(rack)))
-        self.run(f"start {rack}", [])
+        self.make(f"start {kind} {domain}", *(f"up {node}" for node in nodes))
+        self.run(f"start {kind} {domain}", [])
 
-    def lose(self, rack):
-        """Gives up a rack, and repairs."""
-        self.make(f"lose {rack}", *(f"fail {node}" for node in self.in_rack(rack)))
-        self.run(f"lose {rack}", [])
+    def lose(self, kind, domain):
+        """Gives up a domain, and repairs."""
+        self.make(f"lose {kind} {domain}", *(f"fail {node}" for node in self.members(kind, domain)))
+        self.run(f"lose {kind} {domain}", [])
+        self.repair()
 
     def repair(self):
         """Workers ask and report until nothing is left."""
@@ -254,16 +256,16 @@ class Month:
         leases = sorted(self.store.leases.items())
         self.tell(*(f"done {stripe} {fragment} {lease.epoch}" for (stripe, fragment), lease in leases))
 
-    def empty(self, rack):
-        """A day of a rack that is to leave."""
+    def empty(self, kind, domain):
+        """A day of a domain that is to leave."""
         printed, commands = [], []
-        for node in self.in_rack(rack):
+        for node in self.members(kind, domain):
             if self.store.mode[node] == "draining" and self.store.load(node):
                 printed.append("not yet empty")
             else:
                 commands.append(f"{'retire' if self.store.mode[node] == 'draining' else 'drain'} {node}")
                 printed.append(self.replies_to(commands)[-1])
-        self.run(f"empty {rack}", printed, commands)
+        self.run(f"empty {kind} {domain}", printed, commands)
 
     def come(self, nodes):
         """Nodes join."""
@@ -338,12 +340,11 @@ def first_day(it):
     reasons = begin_day(it, "Mon")
     it.count.check(f"Monday: {reasons}", reasons == ["ok"])
     it.night(3)
-    it.work_on(7)
-    it.lose(8)
-    it.repair()
+    it.work_on("fault", 7)
+    it.lose("fault", 8)
     end_day(it, RACKS, 6)
     it.make("leave 5", "drain 5")
-    it.empty(9)
+    it.empty("fault", 9)
     it.tell("fail 0", "down 22")
 
 
@@ -351,15 +352,14 @@ def second_day(it):
     reasons = begin_day(it, "Tue")
     it.count.check(f"Tuesday: {reasons}", {"margin_2", "waiting"} <= set(reasons))
     it.run("leave 5", ["not yet empty"])
-    it.empty(9)
+    it.empty("fault", 9)
     it.tell("up 22")
     it.repair()
     it.make("leave 5", "retire 5")
-    it.empty(9)
+    it.empty("fault", 9)
     it.night(4)
-    it.work_on(10)
-    it.lose(12)
-    it.repair()
+    it.work_on("upgrade", 2)
+    it.lose("upgrade", 8)
     end_day(it, RACKS + 1, 8)
     homes = [it.store.homes[1, fragment][0] for fragment in range(3)]
     it.tell(f"fail {homes[0]}", f"fail {homes[1]}", f"down {homes[2]}", "next")
@@ -369,18 +369,17 @@ def third_day(it):
     reasons = begin_day(it, "Wed")
     it.count.check(f"Wednesday: {reasons}", {"margin_0", "waiting"} <= set(reasons))
     it.run("leave 5", [], status=1)  # (it is gone)
-    it.empty(9)  # (it prints nothing)
-    for call, *asked in (("night", "may-stop", "upgrade"), ("stop", "may-stop", "fault"), ("lose", "may-lose", "fault"),
-                         ("empty", "may-lose", "fault")):
+    it.empty("fault", 9)  # (it prints nothing)
+    for call, *asked in (("night", "may-stop", "upgrade"), ("stop fault", "may-stop", "fault"), ("stop upgrade", "may-stop", "upgrade"),
+                         ("lose fault", "may-lose", "fault"), ("empty fault", "may-lose", "fault"), ("safe may-lose upgrade", "may-lose", "upgrade")):
         domain, rows = it.unsafe(*asked)
         it.run(f"{call} {domain}", rows, status=1)
         it.run(f"{call} 99", [], status=2)  # (there is no such domain)
     it.report()
     it.repair()
     it.night(6)
-    it.work_on(11)
-    it.lose(13)
-    it.repair()
+    it.work_on("fault", 11)
+    it.lose("fault", 13)
     end_day(it, RACKS + 2, 8)
     places = [f"place {stripe}" for stripe in range(5, 20)]
     it.tell(*places[:[reply.split()[1] for reply in it.replies_to(places)].index("refused") + 1])
