@@ -128,10 +128,10 @@ def columns(rows):
     return ["".join(f"{cell:<{width}}" for cell, width in zip(map(str, row), [*widths, 0])).rstrip() for row in rows]
 
 
-def placed_over(nodes):
-    """How many wide stripes the model places over nodes before the first refusal."""
+def placed_over(nodes, word):
+    """How many stripes of a code the model places over nodes before the first refusal."""
     store, stripe = Store(nodes), 0
-    while store.call(1, f"place {stripe}").startswith("placed"):
+    while store.call(1, f"{word} {stripe}").startswith("placed"):
         stripe += 1
     return stripe
 
@@ -251,6 +251,16 @@ class Month:
             self.tell(*["next"] * 4)
             self.report()
 
+    def at_once(self, count):
+        """Workers tick at once, and none of these calls is lost."""
+        ran = self.shell.run(f"{self.functions}for worker in $(seq {count}); do tell tick & done; wait")
+        replies = sorted(self.replies_to(["tick"] * count))
+        self.count.check(f"at once: {ran.stdout!r} {ran.stderr}, and not {replies}", sorted(ran.stdout.splitlines()) == replies)
+        for _ in range(count):
+            self.store.call(1, "tick")
+        self.made += count
+        self.compare("after calls at once", ["status"])
+
     def report(self):
         """Workers report what was leased."""
         leases = sorted(self.store.leases.items())
@@ -297,9 +307,9 @@ class Month:
     def fits(self, there, bought):
         """Nodes that are to be bought."""
         self.shell.write("bought.toml", harness.topology_of({**there, **bought}).encode())
-        found = placed_over({**there, **bought})
-        self.run("fits bought.toml", [str(found)])
-        return found
+        wide, narrow = (placed_over({**there, **bought}, word) for word in ("place", "place6"))
+        self.run("fits bought.toml", ["code,stripes", f"wide,{wide}", f"narrow,{narrow}"])
+        return wide
 
     def backup(self, day):
         """A backup of a day takes the place of the one of that name."""
@@ -322,6 +332,7 @@ def begin_day(it, day):
     reasons = it.morning()
     there = {number: Node(number % 16, number % 8, 4) for number in range(32)}
     at = len(it.mornings)
+    it.at_once(3)
     in_racks = it.fits(there, {32 + number: Node(16 + number // 2, 8 + number % 4, 2 + at) for number in range(8)})
     in_rows = it.fits(there, {32 + number: Node(number % 16, number % 8, 2 + at) for number in range(8)})
     it.count.check(f"{day}: domains before nodes: {in_racks}, {in_rows}", in_racks > in_rows)
