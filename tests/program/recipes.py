@@ -43,11 +43,19 @@ DAYS = (
     ["upgraded 4", "next", "drop 2", "tick"],
 )
 
+
+def first_capacity():
+    """How many stripes fit on its nodes, by the model, behind the count of what `check` has checked."""
+    nodes = harness.nodes_of(harness.split(example("node_unreachable"))[0])
+    return f"ok nodes {len(nodes)} scripts 1 commands 0\n{shown.shown('capacity', Store(nodes), 0)}"
+
+
 # The first line of a recipe, and what it prints of the store of `node_unreachable`, in which node 3 is down and all else is
 # well: no stripe has margin 0, and no node is full. None stands for something.
 PRINTS = {
     "lrcman may-stop 2 3 < store.bundle > forecast.csv": "nodes 2 and 3 may be stopped\n",
-    "{ cat store.bundle; echo 'upgrade 0'; } | lrcman run > answer.out || { cat answer.out >&2; exit 1; }": "",
+    "{ cat nodes.toml; echo '%%'; } > store.sequel": first_capacity,
+    "{ cat store.bundle; echo 'upgrade 0'; } | lrcman resume > answer.out || { cat answer.out >&2; exit 1; }": "",
     "lrcman show stripes < store.bundle > before.csv && { cat store.bundle; echo 'fail 3'; } | lrcman show stripes > after.csv || exit 1": None,
     "for table in nodes stripes status leases; do lrcman show $table < store.bundle > $table.csv || exit 1; done": "",
     "lrcman show stripes < store.bundle > stripes.csv || exit 1": "",
@@ -517,6 +525,7 @@ def main(words):
             rows = [f"1,wide,{fragment},{node},\n" for fragment, node in enumerate(TAKEN_OVER)]
             shell.write("homes.csv", "".join(["stripe,code,fragment,node,slot\n", *rows]).encode())
             ran, wanted = shell.run(recipe), PRINTS.get(first)
+            wanted = wanted() if callable(wanted) else wanted
             is_right = ran.stdout == wanted if wanted is not None else bool(ran.stdout)
             # (`diff` ends with 1 where tables differ, as they do)
             ended = 1 if recipe.rstrip().split("\n")[-1].startswith("diff ") else 0
