@@ -9,6 +9,7 @@ Usage: tests/program/recipes [PROGRAM], by default the program that `rt ci` or `
   the same: they print what the model of tests/model has, and leave the store as the model is after the same commands. Rounds of
   `even` end when no lawful move helps, by the model. Each day's backup has the store as it was then.
 - The table of "How much fits" is that of thirty drawn topologies, by the model, and the program refuses the same stripe of each.
+- So many racks as the page says take stripes where they are upgrade domains, and so many repair what a lost one held.
 - The hours that all rounds of `even` take are those of the formula.
 - What `docs/lrcman.bash` completes are the words of the usage, tables that the program shows, and the words for domains. The
   manual page has the words of docs/FORMATS.md for each line of refused input.
@@ -462,6 +463,34 @@ def capacity(count, program):
     count.check(f"the page has not: {words}", words in " ".join(page.split()))
 
 
+def few_racks(count, program):
+    """Where racks are upgrade domains and each node a fault domain: how many take stripes, and repair what a lost one held."""
+    page = " ".join(read(f"{TOP}/docs/OPERATING.md").decode().split())
+    count.check("the page has other numbers of racks", "Then seven racks take wide stripes, four take narrow ones" in page)
+    for word, racks in (("place", 6), ("place", 7), ("place", 8), ("place6", 3), ("place6", 4), ("place6", 5)):
+        least = {"place": 7, "place6": 4}[word]
+        nodes = {10 * rack + at: Node(10 * rack + at, rack, 4) for rack in range(racks) for at in range(5)}
+        store, commands = Store(nodes), [f"{word} {stripe}" for stripe in range(3)]
+        replies = [store.call(1, command) for command in commands]
+        is_taken = all(reply.startswith("placed") for reply in replies)
+        count.check(f"{racks} racks, {word}: {replies}", is_taken == (racks >= least))
+        if is_taken:
+            for command in [f"fail {node}" for node in nodes if nodes[node].upgrade == 0]:
+                commands.append(command)
+                replies.append(store.call(1, command))
+            margins = [store.margin(stripe) for stripe in store.stripes]
+            count.check(f"{racks} racks, {word}: margins {margins} without one", min(margins) >= 1)
+            while replies[-1] != "idle":
+                leased = [f"done {stripe} {fragment} {lease.epoch}" for (stripe, fragment), lease in store.leases.items()]
+                for command in [*leased, "next"]:
+                    commands.append(command)
+                    replies.append(store.call(1, command))
+            missing = [store.missing(stripe) for stripe in store.stripes]
+            count.check(f"{racks} racks, {word}: {missing} are missing after repairs", any(missing) == (racks == least))
+        told = lines_of(harness.run_bundle(program, harness.bundle_of(nodes, [commands]).encode()).stdout)[0]
+        count.check(f"{racks} racks, {word}: {told}, and not {replies}", [line.split(" ", 1)[1] for line in told] == replies)
+
+
 def hours(count):
     """The page has how long all rounds take, by the numbers of its own tables."""
     page = read(f"{TOP}/docs/OPERATING.md").decode()
@@ -535,6 +564,7 @@ def main(words):
                 count.check(f"{first}: the store begins with {told}", ",risk,2,0x1000,12," in told)
     month(count, program)
     capacity(count, program)
+    few_racks(count, program)
     hours(count)
     completion(count, program)
     manual(count)
