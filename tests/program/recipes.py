@@ -395,7 +395,7 @@ def third_day(it):
         domain, rows = it.unsafe(*asked)
         it.run(f"{call} {domain}", rows, status=1)
         it.run(f"{call} 99", [], status=2)  # (there is no such domain)
-    it.report()
+    it.report()  # (no lease is left, and nothing is told)
     it.repair()
     it.night(6)
     it.work_on("fault", 11)
