@@ -407,6 +407,12 @@ def third_day(it):
     it.tell(*(f"drain {node}" for node in sorted(it.store.nodes_in("active")) if it.store.load(node) < it.store.nodes[node].slots))
     reasons = it.morning()
     it.count.check(f"Wednesday evening: {reasons}", {"margin_0", "no_node", "fault_domains", "slots"} <= set(reasons))
+    node = it.store.homes[3, 3][0]
+    it.tell(f"down {node}")
+    reasons, rack = it.morning(), it.store.nodes[node].fault
+    rows, others = it.harmed("may-lose", "fault", rack), it.harmed("may-stop", "fault", rack)
+    it.count.check(f"a stripe is unavailable, which a loss would harm more than a stop: {reasons}", "unavailable" in reasons and rows != others)
+    it.run(f"lose fault {rack}", rows, status=1)
     it.refuse()
     it.refuse_nodes()
     it.backup("Mon")

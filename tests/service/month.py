@@ -61,9 +61,9 @@ class Month(recipes.Month):
             with Recipe("\n## Backup, restore, and a lost majority\n", "\n## ", self.group.program, room) as recipe:
                 shutil.copy(f"{self.shell.folder}/backup.{day}", f"{room}/books.backup")
                 recipe.run_block(self.count, 1)
-                found, end = b"", time.monotonic() + LIMIT
-                while found != image.encode() and time.monotonic() < end:
-                    found = recipe.asker.ask(recipe.host(5).client, "GET", f"/books/{BOOK}/image?now=1")[2]
+                status, end = 0, time.monotonic() + LIMIT
+                while status != 200 and time.monotonic() < end:
+                    status, _, found = recipe.asker.ask(recipe.host(5).client, "GET", f"/books/{BOOK}/image?now=1")
                     time.sleep(0.1)
                 self.count.check(f"the backup of {day} has {found}", found == image.encode())
 
