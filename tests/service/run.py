@@ -12,9 +12,9 @@ Usage: service/test [--long] [--library FOLDER], where FOLDER has what examples/
 - One member: it is ready within a second, is killed and continues; its tables are those of tests/model/shown.py, byte for byte, and its
   recipes are right by that model.
 - What an operator sees: versions and options, a start, an end under load without an election, what systemd is sent.
-- The recipes of docs/OPERATING.md for a month run word for word, each on three days in a row, and each day's backup is restored.
-  After each the book is that of the model. Over TLS
-  tools/balance has the script of the model, and refuses another CA, another host and a missing token.
+- The recipes of docs/OPERATING.md for a month run word for word, each on three days in a row, and each day's backup is restored. After
+  each the book is that of the model. Over TLS tools/balance has the script of the model, and refuses another CA, another host and a
+  missing token.
 - A book moves from one member to another, call by call as the model has it.
 - Members at addresses where nobody listens don't strand a group, and changes that would are refused; a backup under load is restored
   with all that was acknowledged before it, with its keys and leases, and every book at one place of the log; a member continues alone
