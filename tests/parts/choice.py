@@ -30,7 +30,7 @@ ROWS = [
     ("tests/program/recipes", "recipes", ""),
     ("tests/program/show.py", "show", ""),
     ("tests/model/rules.py", "sweep growth pictures replay show recipes takeover balance compare limits embed views bytes beside stores service cluster packages bench budget tables edits believe tried", ""),
-    ("tests/model/draws.py", "replay show pictures balance views beside stores service cluster bench budget", ""),
+    ("tests/model/draws.py", "replay show recipes pictures balance views beside stores service cluster bench budget", ""),
     ("tests/program/calls.c", "sweep growth", ""),
     ("tests/library/restarts.py", "beside", ""),
     ("tests/stores/store_sqlite.py", "stores", ""),
