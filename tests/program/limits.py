@@ -311,7 +311,7 @@ def wrong_in_book(shared, it):
     """What a book has otherwise than the model, while it plays a script and at its end."""
     with lrc_embed.Book(shared, harness.topology_of(it.nodes), image=it.image or None) as book:
         for line, right in zip(it.lines, it.replies):
-            found = str(book.call(1, command_of(line)))
+            found = library.text_of(book.call(1, command_of(line)))
             if found != right:
                 yield f"`{line}`: {found}, and not {right}"
         after = it.before + len(it.lines)
