@@ -91,12 +91,12 @@ def test_use(count, root):
         with open(f"{EXAMPLES}/place_one_stripe.out", encoding="utf-8") as text:
             check(count, "lrcman run", root("lrcman", "run", input=bundle), text.read())
     examples = "/usr/share/doc/liblrc-embed-dev/examples"
-    built = root.shell(f"cd /root && gcc -o worker {examples}/late_worker.c $(pkg-config --cflags --libs lrc_embed)")
+    built = root.shell(f"cd /srv && gcc -o worker {examples}/late_worker.c $(pkg-config --cflags --libs lrc_embed)")
     if check(count, "gcc against the library", built):
-        check(count, "a program in C", root("/root/worker"), worker_replies())
-        needed = root("ldd", "/root/worker").stdout
+        check(count, "a program in C", root("/srv/worker"), worker_replies())
+        needed = root("ldd", "/srv/worker").stdout
         count.check(f"it takes the installed library: {needed}", f"/lib/x86_64-linux-gnu/liblrc_embed.so.{LIBRARY[12:]} " in needed)
-    static = root.shell(f"cd /root && gcc -o static {examples}/late_worker.c -l:liblrc_embed.a && ./static")
+    static = root.shell(f"cd /srv && gcc -o static {examples}/late_worker.c -l:liblrc_embed.a && ./static")
     check(count, "a program in C with the static library", static, worker_replies())
     check(count, "Python", root("python3", "/usr/share/doc/python3-lrc-embed/examples/late_worker.py"), worker_replies())
     packages = LIBRARY, "liblrc-embed-dev", "python3-lrc-embed"
@@ -264,8 +264,8 @@ def test(count, room, made):
     os.mkdir(root.folder)
     subprocess.run(["tar", "-C", root.folder, "-xf", file], check=True)
     for path in made.values():
-        shutil.copy(path, f"{root.folder}/root")
-    files = {package: f"/root/{os.path.basename(path)}" for package, path in made.items()}
+        shutil.copy(path, f"{root.folder}/srv")
+    files = {package: f"/srv/{os.path.basename(path)}" for package, path in made.items()}
     check(count, "dpkg --install of one alone", root("dpkg", "--install", files["liblrc-embed-dev"]), status=1)
     if check(count, "dpkg --install", root("dpkg", "--install", *files.values())):
         check(count, "what is installed is whole", root("dpkg", "--audit"), "")

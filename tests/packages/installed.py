@@ -9,7 +9,7 @@ from tests.harness import CC, EXAMPLES, TOP, read
 from tests.library.library import lrc_embed, of_version
 from tests.packages.said import ended, left_out
 
-INSTALL, PREFIX = f"{TOP}/tools/install", "/opt/lrcman"
+INSTALL, PREFIX = f"{TOP}/tools/install", "/usr/lrcman"
 VERSION, WORKER = lrc_embed.VERSION, f"{EXAMPLES}/embed/late_worker.c"
 MODULE = f"lib/python{sys.version_info.major}.{sys.version_info.minor}/site-packages"
 # Each file below the prefix, and its permissions; a link has none.
