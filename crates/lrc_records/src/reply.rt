@@ -96,7 +96,7 @@ impl LrcReply {
     }
 
     /// A reply of which this is the record; `None` if it is that of none: a number is out of range, or a field that the kind
-    /// does not use is not 0. A lease that is read has the expiry 0.
+    /// does not use is not 0. A lease may have any expiry, which no record of a reply tells.
     pub fn read(&self) -> Option<Reply>
         ensures some { IfSome result (λ reply. IsReplyInRange reply × (encoded_reply reply ≡ self.now)) }
         ensures none { (result ≡ None) → (reply : AnyReply) → IsReplyInRange reply → encoded_reply reply ≢ self.now }
