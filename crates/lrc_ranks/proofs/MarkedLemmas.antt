@@ -26,6 +26,17 @@ marked-none bits marks none_marked none = record {
   needed = λ index hit. absurd (let clash : true ≡ false = sym hit ∙ (ap (λ (xs : List Bool). get_or xs index false) none_marked ∙ unmarked 64 index) in cc);
 }
 
+-- marks that were copied mark the copy of a set
+pub marked-again : (bits marks again empty copy : List Bool) → AreMarked bits marks → has again ≡ has bits → empty ≡ replicate 64 false → length copy ≡ length empty
+    → ((k : ℕ) → get_or copy k false ≡ (get_or empty k false || get_or marks k false)) → AreMarked again copy
+marked-again bits marks again empty copy marked same none long either = record {
+  long = long ∙ (ap length none ∙ length-replicate 64 false);
+  covered = λ s hit. at (s.value / 64) ∙ marked.covered s (sym (ap (λ (f : StripeNo → Bool). f s) same) ∙ hit);
+  needed = λ index hit. let old = marked.needed index (sym (at index) ∙ hit) in (old.0, old.1, ap (λ (f : StripeNo → Bool). f old.0) same ∙ old.2);
+} where
+  at : (k : ℕ) → get_or copy k false ≡ get_or marks k false
+  at k = either k ∙ ap (λ (b : Bool). b || get_or marks k false) (ap (λ (xs : List Bool). get_or xs k false) none ∙ unmarked 64 k)
+
 -- the blocks of a set are marked where it has more members, all of them in one block, and this block is marked too
 pub marked-more : (bits new marks : List Bool) (index : ℕ) → AreMarked bits marks → index < 64
     → ((s : StripeNo) → has new s ≡ true → (has bits s ≡ true) ⊎ (s.value / 64 ≡ index)) → ((s : StripeNo) → has bits s ≡ true → has new s ≡ true)

@@ -94,6 +94,21 @@ impl ByRank {
         }
     }
 
+    /// Returns a copy of the sets.
+    pub(crate) fn again(&self) -> ByRank
+        ensures { at_rank result ≡ at_rank self.now }
+    {
+        ByRank {
+            sets: [
+                self.sets[0].again(),
+                self.sets[1].again(),
+                self.sets[2].again(),
+                self.sets[3].again(),
+                self.sets[4].again(),
+            ],
+        }
+    }
+
     /// Adds a stripe that is at no rank to this rank, if there is one.
     pub fn add(&mut self, stripe: StripeNo, rank: Option<u8>)
         requires none { (k : ℕ) → at_rank self.old k stripe ≡ false }

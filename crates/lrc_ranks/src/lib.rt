@@ -5,6 +5,7 @@ mod block;
 mod by_rank;
 mod counts;
 mod fragment_sets;
+mod kept_planes;
 mod marked_set;
 mod planes;
 mod queue;
@@ -14,6 +15,7 @@ mod work;
 
 pub use by_rank::{ByRank, Position};
 pub use fragment_sets::FragmentSets;
+pub use kept_planes::KeptPlanes;
 pub use planes::Planes;
 pub use queue::Queue;
 pub use stripe_members::StripeMembers;

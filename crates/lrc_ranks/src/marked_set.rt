@@ -53,6 +53,18 @@ impl MarkedSet {
         MarkedSet { set, marks }
     }
 
+    /// Returns a copy of the set.
+    pub(crate) fn again(&self) -> MarkedSet
+        ensures { has result ≡ has self.now }
+    {
+        let mut marks = BitSet::new();
+        marks.insert_all(&self.marks);
+        MarkedSet {
+            set: self.set.again(),
+            marks,
+        }
+    }
+
     /// Reports whether a stripe is in the set.
     pub(crate) fn contains(&self, stripe: StripeNo) -> bool
         ensures { result ≡ has self.now stripe }

@@ -2,12 +2,13 @@ ghost use Rattle.std.specs.Prelude.{◌≡◌, ◌||◌, ◌&&◌, ℕ, ◌≤�
 ghost use Rattle.std.specs.List.{list_any};
 ghost use Rattle.lrc_code.specs.Numbers.{same_stripe};
 ghost use Rattle.lrc_code.specs.declared.numbers.StripeNo.{StripeNo as AnyStripe};
-ghost use Rattle.lrc_ranks.specs.Missing.{rank_with};
+ghost use Rattle.lrc_ranks.specs.Missing.{rank_with, ranks_in};
 ghost use Rattle.lrc_ranks.specs.Ranks.{is_at, queue_from};
 ghost use Rattle.lrc_ranks.specs.Sets.{at_rank, has};
 
 use crate::by_rank::{ByRank, Position};
 use crate::fragment_sets::FragmentSets;
+use crate::kept_planes::KeptPlanes;
 use crate::planes::Planes;
 use crate::stripe_set::StripeSet;
 use crate::work::Work;
@@ -70,6 +71,14 @@ impl Queue {
         ensures { at_rank self.new ≡ λ k s. has planes.now.work s && nat_eq (rank_with planes.now.narrow planes.now.missing more.now s) k }
     {
         self.ranks = ByRank::ranked(planes, more);
+    }
+
+    /// Sets the ranks of all stripes by the planes alone.
+    pub fn renew_by(&mut self, planes: &mut KeptPlanes)
+        ensures planes { planes.new ≡ planes.old }
+        ensures ranks { at_rank self.new ≡ ranks_in planes.old }
+    {
+        self.ranks = planes.ranks();
     }
 
     /// Reports whether no stripe has a rank.

@@ -38,6 +38,15 @@ impl StripeSet {
         }
     }
 
+    /// Returns a copy of the set.
+    pub(crate) fn again(&self) -> StripeSet
+        ensures { has result ≡ has self.now }
+    {
+        let mut set = StripeSet::new();
+        set.insert_all(self);
+        set
+    }
+
     /// Reports whether a stripe is in the set.
     pub fn contains(&self, stripe: StripeNo) -> bool
         ensures { result ≡ has self.now stripe }

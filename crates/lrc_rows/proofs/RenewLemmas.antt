@@ -1,5 +1,5 @@
 -- What is kept where a node's stripes have their rows renewed.
-use Rattle.std.proofs.Common.{◌≡◌, ◌≢◌, ℕ, ◌<◌, inl, inr, Bool, true, false, not, ◌&&◌, cond, if◌then◌else◌, nat_lt, nat_eq, List, [], ◌∷◌, length, get_or, Option, Some, None, is_none, IsSome, arith, refl, sym, ap, ◌∙◌, subst}
+use Rattle.std.proofs.Common.{◌≡◌, ◌≢◌, ℕ, ◌<◌, inl, inr, Bool, true, false, not, ◌&&◌, cond, if◌then◌else◌, nat_lt, nat_eq, List, [], length, get_or, Option, Some, None, is_none, IsSome, arith, refl, sym, ap, ◌∙◌, subst}
 use Rattle.std.proofs.Math.Path.{fun_ext}
 use Rattle.std.specs.List.{list_any}
 use Rattle.std.proofs.lemmas.Bool.{cases_Bool, cases_eq, eq-eqb, ne_eqb, lt-ltb}

@@ -1,36 +1,26 @@
 -- Rows by the stripes' numbers, and the queues that follow from them.
-use Rattle.std.proofs.Common.{◌≡◌, ◌≢◌, not, ℕ, zero, suc, ◌<◌, inl, inr, Bool, true, false, cond, ◌&&◌, ◌||◌, nat_lt, List, length, get_or, set, replicate, Option, Some, None, is_some, option_and_then, arith, refl, sym, ap, ap₂, ◌∙◌, subst, nat_eq}
+use Rattle.std.proofs.Common.{◌≡◌, not, ℕ, zero, suc, ◌<◌, inl, inr, Bool, true, false, cond, ◌&&◌, ◌||◌, nat_lt, List, length, get_or, set, replicate, Option, Some, None, is_some, option_and_then, arith, refl, sym, ap, ap₂, ◌∙◌, nat_eq}
 use Rattle.std.proofs.Math.Path.{fun_ext}
 use Rattle.std.proofs.Math.ListN.{length-set}
 use Rattle.std.proofs.lemmas.Option.{same_Some}
-use Rattle.std.proofs.lemmas.Bool.{cases_eq, cases_lt, eq-eqb, ne_eqb, eqb-true, cases_Bool, lt-ltb, le-ltb, and_parts, not-false}
-use Rattle.std.proofs.lemmas.List.{length-replicate, get_or-set_same, get_or-set_other, get_or_default}
-use Rattle.lrc_code.specs.declared.losses.LossMask.{LossMask}
-use Rattle.lrc_code.specs.declared.numbers.NodeNo.{NodeNo}
+use Rattle.std.proofs.lemmas.Bool.{cases_eq, cases_lt, eq-eqb, ne_eqb, eqb-true, cases_Bool, lt-ltb, le-ltb, not-false}
+use Rattle.std.proofs.lemmas.List.{length-replicate, get_or-set_same, get_or-set_other}
 use Rattle.lrc_code.specs.declared.numbers.StripeNo.{StripeNo}
-use Rattle.lrc_topology.specs.declared.seat.Seat.{Seat}
 use Rattle.lrc_code.specs.declared.codes.Code.{Code}
 use Rattle.lrc_code.specs.Losses.{FragmentSet, joined, bits_set}
 use Rattle.lrc_code.specs.Numbers.{same_stripe}
 use Rattle.lrc_code.proofs.NumbersLemmas.{equal_stripes}
-use Rattle.lrc_homes.specs.declared.losses.Losses.{Losses}
 use Rattle.lrc_rows.specs.declared.row.Row.{Row}
 use Rattle.lrc_ranks.specs.declared.planes.Planes.{Planes}
 use Rattle.lrc_ranks.specs.Missing.{code_by, fragments_at, rank_with}
 use Rattle.lrc_ranks.specs.Sets.{at_rank, at_fragment, has}
-use Rattle.lrc_homes.specs.Homes.{sits_on}
 use Rattle.lrc_rows.specs.Listed.{rows_in}
-use Rattle.lrc_homes.specs.declared.home_domains.HomeDomains.{HomeDomains}
 use Rattle.lrc_homes.specs.Masks.{renewed}
 use Rattle.lrc_terms.specs.Levels.{rank_by}
 use Rattle.lrc_homes.specs.Upgrading.{missing_with, work_rank_with}
 use Rattle.lrc_ranks.specs.Ranks.{is_at}
-use Rattle.lrc_rows.specs.Kept.{AreQueued, ArePlaned, is_planed, is_in_upgrade, needs_of, AreRenewed, IsRenewed, IsWithLosses, IsWithMissing, IsMissingOn, IsRehomed, IsToMoveOn, ranked, is_row_on, row_has_work}
-use Rattle.std.specs.List.{list_any}
-use Rattle.std.proofs.lemmas.List.Folds.{list_any_at, list_any_none}
-use Rattle.std.proofs.lemmas.Nat.Bits.{bit_at-zero}
+use Rattle.lrc_rows.specs.Kept.{AreQueued, ArePlaned, is_planed, is_in_upgrade, needs_of, ranked, row_has_work}
 use Rattle.lrc_code.specs.declared.codes.Code.TheVariants.{Wide, Narrow}
-use Rattle.lrc_terms.proofs.LevelLemmas.{has_some-bits, has_some-none}
 
 -- ---- no rows
 

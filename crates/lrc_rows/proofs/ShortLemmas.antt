@@ -3,10 +3,9 @@ use Rattle.std.proofs.Common.{◌≡◌, ◌≢◌, ℕ, ◌+◌, ◌-◌, ◌<�
 use Rattle.std.proofs.Math.Path.{fun_ext}
 use Rattle.std.specs.List.{list_any, count_by, AllPairs}
 use Rattle.std.specs.Option.{option_map_or}
-use Rattle.std.proofs.lemmas.Bool.{not-true, and_parts, cases_Bool, cases_lt, eq-eqb, eqb-true, lt-ltb, le-ltb, ltb-false}
-use Rattle.std.proofs.lemmas.List.{get_or_past, get_or-map}
+use Rattle.std.proofs.lemmas.Bool.{not-true, and_parts, cases_Bool, cases_lt, eq-eqb, eqb-true, lt-ltb, le-ltb}
+use Rattle.std.proofs.lemmas.List.{get_or-map}
 use Rattle.lrc_bits.specs.Flags.{FindsFrom}
-use Rattle.std.proofs.lemmas.List.Folds.{list_any_at}
 use Rattle.std.proofs.lemmas.List.Sums.{count_by_more_yes, count_by_more_no, sum_by-cons}
 use Rattle.lrc_code.specs.declared.numbers.NodeNo.{NodeNo}
 use Rattle.lrc_code.specs.declared.numbers.StripeNo.{StripeNo}

@@ -1,35 +1,20 @@
 -- The rows of a set, changed in turn.
-use Rattle.std.proofs.Common.{◌≡◌, ◌≢◌, not, ℕ, zero, suc, ◌<◌, inl, inr, Bool, true, false, cond, ◌&&◌, ◌||◌, nat_lt, List, length, get_or, set, replicate, Option, Some, None, is_some, option_and_then, arith, refl, sym, ap, ap₂, ◌∙◌, subst, nat_eq}
-use Rattle.std.proofs.Math.Path.{fun_ext}
-use Rattle.std.proofs.Math.ListN.{length-set}
-use Rattle.std.proofs.lemmas.Option.{same_Some}
-use Rattle.std.proofs.lemmas.Bool.{cases_eq, cases_lt, eq-eqb, ne_eqb, eqb-true, cases_Bool, lt-ltb, le-ltb, and_parts, not-false}
-use Rattle.std.proofs.lemmas.List.{length-replicate, get_or-set_same, get_or-set_other, get_or_default}
-use Rattle.lrc_code.specs.declared.losses.LossMask.{LossMask}
+use Rattle.std.proofs.Common.{◌≡◌, ◌≢◌, not, ℕ, ◌<◌, inl, inr, Bool, true, false, ◌&&◌, nat_lt, List, length, get_or, Option, Some, None, is_some, arith, refl, sym, ap, ◌∙◌, subst, nat_eq}
+use Rattle.std.proofs.lemmas.Bool.{cases_eq, eq-eqb, ne_eqb, cases_Bool, lt-ltb}
+use Rattle.std.proofs.lemmas.List.{get_or_default}
 use Rattle.lrc_code.specs.declared.numbers.NodeNo.{NodeNo}
 use Rattle.lrc_code.specs.declared.numbers.StripeNo.{StripeNo}
-use Rattle.lrc_topology.specs.declared.seat.Seat.{Seat}
-use Rattle.lrc_code.specs.declared.codes.Code.{Code}
-use Rattle.lrc_code.specs.Losses.{FragmentSet, joined, bits_set}
+use Rattle.lrc_code.specs.Losses.{bits_set}
 use Rattle.lrc_code.specs.Numbers.{same_stripe}
 use Rattle.lrc_code.proofs.NumbersLemmas.{equal_stripes}
-use Rattle.lrc_homes.specs.declared.losses.Losses.{Losses}
 use Rattle.lrc_rows.specs.declared.row.Row.{Row}
-use Rattle.lrc_ranks.specs.declared.planes.Planes.{Planes}
-use Rattle.lrc_ranks.specs.Missing.{code_by, fragments_at, rank_with}
-use Rattle.lrc_ranks.specs.Sets.{at_rank, at_fragment, has}
 use Rattle.lrc_homes.specs.Homes.{sits_on}
-use Rattle.lrc_rows.specs.Listed.{rows_in}
-use Rattle.lrc_homes.specs.declared.home_domains.HomeDomains.{HomeDomains}
 use Rattle.lrc_homes.specs.Masks.{renewed}
-use Rattle.lrc_terms.specs.Levels.{rank_by}
-use Rattle.lrc_homes.specs.Upgrading.{missing_with, work_rank_with}
-use Rattle.lrc_ranks.specs.Ranks.{is_at}
-use Rattle.lrc_rows.specs.Kept.{AreQueued, ArePlaned, is_planed, is_in_upgrade, needs_of, AreRenewed, IsRenewed, IsWithLosses, IsWithMissing, IsMissingOn, IsRehomed, IsToMoveOn, ranked, is_row_on, row_has_work}
+use Rattle.lrc_rows.specs.Kept.{is_in_upgrade, AreRenewed, IsRenewed, is_row_on}
 use Rattle.std.specs.List.{list_any}
 use Rattle.std.proofs.lemmas.List.Folds.{list_any_at, list_any_none}
 use Rattle.std.proofs.lemmas.Nat.Bits.{bit_at-zero}
-use Rattle.lrc_code.specs.declared.codes.Code.TheVariants.{Wide, Narrow}
+use Rattle.lrc_code.specs.declared.codes.Code.TheVariants.{Wide}
 use Rattle.lrc_terms.proofs.LevelLemmas.{has_some-bits, has_some-none}
 
 -- the stripe is taken from a set

@@ -20,7 +20,7 @@ use Rattle.lrc_homes.specs.Homes.{sits_on, is_on_seat, is_missing, is_to_move}
 use Rattle.lrc_homes.specs.Masks.{IsPutOn, AreKept, renewed, level_of, IsPut}
 use Rattle.lrc_ranks.specs.Ranks.{is_at}
 use Rattle.lrc_ranks.specs.declared.planes.Planes.{Planes}
-use Rattle.lrc_ranks.specs.Missing.{code_by}
+use Rattle.lrc_ranks.specs.Missing.{code_by, rank_with}
 use Rattle.lrc_ranks.specs.Sets.{at_rank, at_fragment, has}
 use Rattle.lrc_rows.specs.NodeStates.{NodeStates}
 use Rattle.lrc_rows.specs.Listed.{rows_in, row_code, row_homes}
@@ -145,6 +145,16 @@ pub record ArePlaned (rows : StripeNo → Option Row) (planes : Planes) : Type 0
   pub work : has planes.work ≡ (λ s. row_has_work (rows s))
   pub missing : (f : ℕ) (s : StripeNo) → f < 16 → at_fragment planes.missing f s ≡ is_planed f (rows s)
   pub narrow : (s : StripeNo) (r : Row) → rows s ≡ Some r → code_by planes.narrow s ≡ r.losses.code
+
+-- (internal) the stripes with work of each rank, by the fragments that they miss in the planes and those with a home in
+-- an upgrading domain
+pub record AreRanksOf (list : List (Option Row)) (upgrading : List Bool) (planes : Planes) (work : List (List Bool)) :
+    Type 0 where
+  pub more : List (List Bool)
+  pub each : (f : ℕ) (s : StripeNo) → f < 16
+      → at_fragment more f s ≡ (has planes.work s && is_in_upgrade upgrading f (rows_in list s))
+  pub ranks : at_rank work
+      ≡ (λ k s. has planes.work s && nat_eq (rank_with planes.narrow planes.missing more s) k)
 
 -- (internal) The lists have an entry for each stripe number. The fragments that need a lease are those of the rows, the set has the stripes with a row, and the queue has the stripes with work at their ranks.
 pub record AreQueued (list : List (Option Row)) (upgrading : List Bool) (needs : List ℕ) (there : List Bool) (work : List (List Bool)) (planes : Planes) : Type 0 where

@@ -23,7 +23,7 @@ use crate::row::Row;
 use crate::upgrading_domains::UpgradingDomains;
 use lrc_code::{Code, Fault, Fragment, LossMask, NodeNo, STRIPES, StripeNo};
 use lrc_homes::{HomeDomains, Losses, masks};
-use lrc_ranks::{Planes, Position, Queue, StripeSet, Work};
+use lrc_ranks::{KeptPlanes, Position, Queue, StripeSet, Work};
 use lrc_terms::Level;
 use lrc_topology::Seat;
 use one_row::{
@@ -43,7 +43,7 @@ pub struct Rows {
     there: StripeSet,
     work: Queue,
     /// The stripes that have work, and their missing fragments by the masks of their rows.
-    planes: Planes,
+    planes: KeptPlanes,
     /// The upgrade domains whose nodes are upgrading.
     upgrading: UpgradingDomains,
 }
@@ -71,7 +71,7 @@ impl Rows {
             needs: zeros(alloc, STRIPES)?,
             there: StripeSet::new(),
             work: Queue::new(),
-            planes: Planes::new(),
+            planes: KeptPlanes::new(),
             upgrading: UpgradingDomains::new(),
         })
     }
@@ -125,7 +125,7 @@ impl Rows {
         let rank = row.work_rank(&self.upgrading);
         let needs = row.losses.needs.bits;
         let before = planed(self.list[stripe.value as usize].as_ref());
-        self.planes.narrow.set(stripe, is_narrow(row.losses.code));
+        self.planes.set_narrow(stripe, is_narrow(row.losses.code));
         set_planes(&mut self.planes, stripe, before, row.planed(), needs != 0);
         self.needs[stripe.value as usize] = needs;
         self.there.set(stripe, true);
@@ -356,7 +356,7 @@ impl Rows {
     pub fn join_work(&self, set: &mut StripeSet)
         ensures { has set.new ≡ λ s. has set.old s || row_has_work (rows_in self.now.list s) }
     {
-        set.insert_all(&self.planes.work);
+        set.insert_all(&self.planes.planes().work);
     }
 
     /// The stripes that have work, in the order of repair.

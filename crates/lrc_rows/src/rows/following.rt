@@ -7,14 +7,14 @@ ghost use Rattle.lrc_code.specs.declared.numbers.StripeNo.{StripeNo as AnyStripe
 ghost use Rattle.lrc_ranks.specs.Sets.{has, at_fragment};
 ghost use Rattle.lrc_rows.specs.NodeStates.{states_in};
 ghost use Rattle.lrc_rows.specs.Listed.{rows_in};
-ghost use Rattle.lrc_rows.specs.Kept.{IsKept, AreSameStripes, is_in_upgrade, row_has_work};
+ghost use Rattle.lrc_rows.specs.Kept.{IsKept, AreSameStripes, AreRanksOf, is_in_upgrade, row_has_work};
 
 use crate::node_table::NodeTable;
 use crate::row::Row;
 use crate::rows::Rows;
 use crate::upgrading_domains::UpgradingDomains;
 use lrc_code::{NodeNo, UpgradeNo};
-use lrc_ranks::{FragmentSets, StripeSet};
+use lrc_ranks::{FragmentSets, KeptPlanes, Planes, Queue, StripeSet};
 
 impl Rows {
     /// Makes the masks follow whether a node is draining, before the table of nodes does.
@@ -61,10 +61,47 @@ impl Rows {
         let has_work = self.has_work();
         self.upgrading.set(domain, is_upgrading);
         if has_work {
-            let more = in_upgrade(&self.list, &self.planes.work, &self.upgrading);
-            self.work.renew(&self.planes, &more);
+            renew(
+                &mut self.work,
+                &mut self.planes,
+                &self.list,
+                &self.upgrading,
+            );
         }
     }
+}
+
+/// Makes the ranks of the stripes with work anew.
+fn renew(
+    work: &mut Queue,
+    planes: &mut KeptPlanes,
+    list: &Vec<Option<Row>>,
+    upgrading: &UpgradingDomains,
+)
+    requires { length list.now.items ≡ 4096 }
+    ensures planes { planes.new ≡ planes.old }
+    ensures ranks { AreRanksOf list.now.items upgrading.now planes.old work.new }
+{
+    if upgrading.is_empty() {
+        work.renew_by(planes);
+    } else {
+        renew_with(work, planes.planes(), list, upgrading);
+    }
+}
+
+/// The same during an upgrade.
+#[inline(never)] // so that nothing clears the room for its sets where there is no work or no upgrade
+fn renew_with(
+    work: &mut Queue,
+    planes: &Planes,
+    list: &Vec<Option<Row>>,
+    upgrading: &UpgradingDomains,
+)
+    requires { length list.now.items ≡ 4096 }
+    ensures { AreRanksOf list.now.items upgrading.now planes.now work.new }
+{
+    let more = in_upgrade(list, &planes.work, upgrading);
+    work.renew(planes, &more);
 }
 
 /// The stripes of a set by the fragments with a home in an upgrading domain.
@@ -77,9 +114,6 @@ fn in_upgrade(
     ensures { (f : ℕ) (s : AnyStripe) → f < 16 → at_fragment result f s ≡ (has stripes.now s && is_in_upgrade upgrading.now f (rows_in list.now.items s)) }
 {
     let mut sets = FragmentSets::new();
-    if upgrading.is_empty() {
-        return sets;
-    }
     let mut left = stripes.members();
     while let Some(stripe) = left.next_stripe() {
         if let Some(row) = &list[stripe.value as usize] {

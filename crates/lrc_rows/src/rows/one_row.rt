@@ -19,7 +19,7 @@ use crate::row::Row;
 use crate::upgrading_domains::UpgradingDomains;
 use lrc_code::{Code, Fragment, LossMask, StripeNo};
 use lrc_homes::{HomeDomains, Losses, masks};
-use lrc_ranks::Planes;
+use lrc_ranks::KeptPlanes;
 use lrc_topology::Seat;
 
 /// Sets whether these fragments are missing, if there is a row.
@@ -87,7 +87,7 @@ pub(super) fn planed(row: Option<&Row>) -> LossMask
 
 /// Sets what the planes have of a stripe. Before, they had these fragments of it.
 pub(super) fn set_planes(
-    planes: &mut Planes,
+    planes: &mut KeptPlanes,
     stripe: StripeNo,
     before: LossMask,
     after: LossMask,
@@ -98,13 +98,9 @@ pub(super) fn set_planes(
     ensures work { has planes.new.work ≡ λ s. if same_stripe stripe s then has_work else has planes.old.work s }
     ensures narrow { planes.new.narrow ≡ planes.old.narrow }
 {
-    planes
-        .missing
-        .put(stripe, masks::put(after, before, false), true);
-    planes
-        .missing
-        .put(stripe, masks::put(before, after, false), false);
-    planes.work.set(stripe, has_work);
+    planes.put_missing(stripe, masks::put(after, before, false), true);
+    planes.put_missing(stripe, masks::put(before, after, false), false);
+    planes.set_work(stripe, has_work);
 }
 
 /// Whether the code is `Narrow`.

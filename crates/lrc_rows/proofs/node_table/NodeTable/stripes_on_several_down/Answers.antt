@@ -1,4 +1,4 @@
-use Rattle.std.proofs.Common.{Bool, true, ◌<◌, ◌∙◌, ◌||◌, ◌&&◌, arith, ap, sym, nat_lt, List, length}
+use Rattle.std.proofs.Common.{Bool, ◌<◌, ◌∙◌, ◌||◌, ◌&&◌, arith, ap, sym, nat_lt, List, length}
 use Rattle.std.proofs.Math.Path.{fun_ext}
 use Rattle.std.proofs.lemmas.List.{take_all, length-map}
 use Rattle.lrc_code.specs.declared.numbers.StripeNo.{StripeNo}

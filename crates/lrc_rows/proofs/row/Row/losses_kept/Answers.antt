@@ -1,4 +1,4 @@
-use Rattle.std.proofs.Common.{◌≡◌, ℕ, Bool, ◌||◌, ap, ◌∙◌}
+use Rattle.std.proofs.Common.{ℕ, Bool, ◌||◌, ap, ◌∙◌}
 use Rattle.lrc_code.specs.Losses.{bits_set, bits_of}
 use Rattle.lrc_homes.specs.declared.losses.Losses.{Losses}
 use Rattle.lrc_homes.specs.Masks.{missing_of}

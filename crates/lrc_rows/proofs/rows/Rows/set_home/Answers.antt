@@ -1,11 +1,11 @@
-use Rattle.std.proofs.Common.{◌≡◌, ◌<◌, ℕ, not, nat_eq, Option, None, is_some, option_and_then, length, set, arith, sym, ap, subst, ◌∙◌}
+use Rattle.std.proofs.Common.{◌≡◌, ◌<◌, not, nat_eq, Option, None, is_some, option_and_then, length, set, arith, sym, ap, subst, ◌∙◌}
 use Rattle.std.proofs.lemmas.List.{get_or_default}
 use Rattle.lrc_rows.specs.declared.row.Row.{Row}
 use Rattle.lrc_homes.specs.declared.losses.Losses.{Losses}
 use Rattle.lrc_rows.specs.Listed.{RowTable, rows_in}
 use Rattle.lrc_rows.specs.Kept.{row_has_work, needs_of, is_planed, IsRenewed, IsRehomed}
 use Rattle.lrc_rows.proofs.RowsLemmas.{planed-kept, rank_of_row, rows_in-set, present-same, are_queued-set}
-use Rattle.lrc_rows.proofs.BecomeLemmas.{needs-work, renewed-code, rehomed-there, renewed-there, renewed-set}
+use Rattle.lrc_rows.proofs.BecomeLemmas.{renewed-code, rehomed-there, renewed-there, renewed-set}
 use Rattle.lrc_rows.proofs.rows.Rows.set_home.Goals as goal
 
 pub set_planes-requires : goal.set_planes-requires

@@ -4,7 +4,8 @@ use Rattle.lrc_rows.proofs.rows.Rows.set_upgrading_in.Goals as goal
 pub invariant_of-self : goal.invariant_of-self
 invariant_of-self c =
     let t = c.self.inside in
-    are_queued-upgrading t.list.items t.upgrading c.set.new.self t.needs.items t.there t.work c.renew.new.self t.planes c.self.invariant c.in_upgrade-more.result c.in_upgrade-more.ensures c.renew.ensures
+    rw c.renew.ensures.planes
+    (are_queued-upgrading t.list.items t.upgrading c.set.new.self t.needs.items t.there t.work c.renew.new.work t.planes c.self.invariant c.renew.ensures.ranks.more c.renew.ensures.ranks.each c.renew.ensures.ranks.ranks)
 
 pub invariant_of-self-else-has_work : goal.invariant_of-self-else-has_work
 invariant_of-self-else-has_work c =

@@ -1,4 +1,4 @@
-use Rattle.std.proofs.Common.{◌≡◌, ◌<◌, ◌&&◌, ℕ, Bool, true, false, not, cond, List, Option, Some, None, length, get_or, arith, refl, sym, ap, ◌∙◌}
+use Rattle.std.proofs.Common.{◌≡◌, ◌<◌, ◌&&◌, ℕ, Bool, true, false, not, cond, List, Some, None, length, arith, refl, sym, ap, ◌∙◌}
 use Rattle.std.proofs.lemmas.Bool.{eq-eqb}
 use Rattle.std.proofs.lemmas.List.{get_or_default}
 use Rattle.lrc_code.specs.Losses.{bits_set}
@@ -6,20 +6,10 @@ use Rattle.lrc_code.specs.Numbers.{same_stripe}
 use Rattle.lrc_code.specs.declared.numbers.StripeNo.{StripeNo}
 use Rattle.lrc_ranks.specs.Sets.{has, at_fragment}
 use Rattle.lrc_ranks.proofs.StripeSetLemmas.{has-taken}
-use Rattle.lrc_rows.specs.declared.row.Row.{Row}
 use Rattle.lrc_rows.specs.Listed.{rows_in}
 use Rattle.lrc_rows.specs.Kept.{is_in_upgrade}
-use Rattle.lrc_rows.proofs.TurnLemmas.{IsTaken, none-upgraded, none-yet, upgraded-more}
+use Rattle.lrc_rows.proofs.TurnLemmas.{IsTaken, none-yet, upgraded-more}
 use Rattle.lrc_rows.proofs.rows.following.in_upgrade.Goals as goal
-
-bare : (a b : Bool) → b ≡ false → false ≡ (a && b)
-bare true b e = sym e
-bare false b e = refl
-
-pub returns-then-is_empty : goal.returns-then-is_empty
-returns-then-is_empty c = λ f s low.
-    ap (λ (m : ℕ → StripeNo → Bool). m f s) c.new-sets.ensures
-    ∙ bare (has c.args.stripes.now s) (is_in_upgrade c.args.upgrading.now f (rows_in c.args.list.now.items s)) (none-upgraded c.args.upgrading.now (c.is_empty.ensures c.if-is_empty.true) f (rows_in c.args.list.now.items s))
 
 pub loop-stripe-init : goal.loop-stripe-init
 loop-stripe-init c = record {

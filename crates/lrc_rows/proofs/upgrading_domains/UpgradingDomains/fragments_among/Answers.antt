@@ -1,4 +1,4 @@
-use Rattle.std.proofs.Common.{◌≡◌, ◌<◌, ℕ, Bool, true, false, ◌&&◌, ◌||◌, not, nat_lt, nat_eq, List, length, get_or, set, arith, refl, sym, ap, ap₂, ◌∙◌}
+use Rattle.std.proofs.Common.{◌≡◌, ◌<◌, ℕ, Bool, true, false, ◌&&◌, ◌||◌, not, nat_lt, List, length, get_or, arith, refl, sym, ap, ap₂, ◌∙◌}
 use Rattle.std.proofs.Math.ListN.{length-set}
 use Rattle.lrc_code.specs.Losses.{bits_set}
 use Rattle.lrc_rows.proofs.UpgradingLemmas.{either-bits, no-bits, left-set, left-over, one-passed}

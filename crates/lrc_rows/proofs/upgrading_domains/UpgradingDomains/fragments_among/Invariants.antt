@@ -1,4 +1,4 @@
-use Rattle.std.proofs.Common.{◌≡◌, ℕ, Bool, true, false, ◌&&◌, not, nat_lt, length, get_or}
+use Rattle.std.proofs.Common.{◌≡◌, ℕ, true, false, ◌&&◌, not, nat_lt, length, get_or}
 use Rattle.lrc_code.specs.Losses.{bits_set}
 use Rattle.lrc_ranks.proofs.StripeSetLemmas.{member_count}
 use Rattle.lrc_rows.proofs.upgrading_domains.UpgradingDomains.fragments_among.Given as goal
