@@ -1,10 +1,8 @@
 ghost use Rattle.std.specs.Prelude.{◌≡◌};
-ghost use Rattle.lrc_records.specs.Replies.{no_lease};
-ghost use Rattle.lrc_records.specs.Shown.{encoded_home};
 ghost use Rattle.lrc_changes.specs.Changes.{encoded_change, lease_record};
 
 use crate::Former;
-use lrc_records::{LrcHome, LrcLease, LrcSeat};
+use lrc_records::{LrcHome, LrcLease};
 use lrc_rules::{Lease, Seat};
 
 /// A fragment whose home or lease a call changed: both before the call, and after it. `was_leased` and `is_leased` are
@@ -23,23 +21,6 @@ pub struct LrcChange {
     pub lease_after: LrcLease,
 }
 
-const NO_SEAT: LrcSeat = LrcSeat { node: 0, slot: 0 };
-
-const NO_HOME: LrcHome = LrcHome {
-    seat: NO_SEAT,
-    is_there: 0,
-    reserved: [0; 3],
-};
-
-const NO_LEASE: LrcLease = LrcLease {
-    stripe: 0,
-    fragment: 0,
-    holder: 0,
-    target: NO_SEAT,
-    epoch: 0,
-    expiry: 0,
-};
-
 impl LrcChange {
     /// The record of a fragment that was as `former` says, and has this home and this lease now.
     pub(crate) fn of(former: &Former, home: Option<Seat>, lease: Option<Lease>) -> LrcChange
@@ -51,28 +32,11 @@ impl LrcChange {
             was_leased: u8::from(former.lease.is_some()),
             is_leased: u8::from(lease.is_some()),
             reserved: [0; 3],
-            home_before: home_record(former.home),
-            home_after: home_record(home),
+            home_before: LrcHome::of(former.home),
+            home_after: LrcHome::of(home),
             lease_before: lease_record(former.lease),
             lease_after: lease_record(lease),
         }
-    }
-}
-
-/// The record of a home, if there is one.
-fn home_record(home: Option<Seat>) -> LrcHome
-    ensures { result ≡ encoded_home home }
-{
-    match home {
-        Some(seat) => LrcHome {
-            seat: LrcSeat {
-                node: seat.node.value,
-                slot: seat.slot,
-            },
-            is_there: 1,
-            reserved: [0; 3],
-        },
-        None => NO_HOME,
     }
 }
 
@@ -82,6 +46,6 @@ fn lease_record(lease: Option<Lease>) -> LrcLease
 {
     match lease {
         Some(lease) => LrcLease::of(&lease),
-        None => NO_LEASE,
+        None => LrcLease::NONE,
     }
 }

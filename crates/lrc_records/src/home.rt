@@ -20,14 +20,15 @@ pub struct LrcHomes {
     pub homes: [LrcHome; 16],
 }
 
-const NONE: LrcHome = LrcHome {
-    seat: LrcSeat::NONE,
-    is_there: 0,
-    reserved: [0; 3],
-};
-
 impl LrcHome {
-    fn of(home: Option<Seat>) -> LrcHome
+    const NONE: LrcHome = LrcHome {
+        seat: LrcSeat::NONE,
+        is_there: 0,
+        reserved: [0; 3],
+    };
+
+    /// The record of a home, if there is one.
+    pub fn of(home: Option<Seat>) -> LrcHome
         ensures { result ≡ encoded_home home }
     {
         match home {
@@ -36,7 +37,7 @@ impl LrcHome {
                 is_there: 1,
                 reserved: [0; 3],
             },
-            None => NONE,
+            None => LrcHome::NONE,
         }
     }
 }
@@ -46,7 +47,7 @@ impl LrcHomes {
     pub fn of(homes: &[Option<Seat>; 16]) -> LrcHomes
         ensures { result ≡ encoded_homes homes.now }
     {
-        let mut encoded = [NONE; 16];
+        let mut encoded = [LrcHome::NONE; 16];
         for (i, home) in homes.iter().enumerate() {
             encoded[i] = LrcHome::of(*home);
         }

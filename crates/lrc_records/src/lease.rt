@@ -20,7 +20,8 @@ pub struct LrcLease {
 }
 
 impl LrcLease {
-    pub(crate) const NONE: LrcLease = LrcLease {
+    /// No lease: all is 0.
+    pub const NONE: LrcLease = LrcLease {
         stripe: 0,
         fragment: 0,
         holder: 0,
