@@ -6,9 +6,11 @@ its file, line and column. These files run without the rest of the repository, s
 import os
 import re
 import sys
+from collections import Counter
 from dataclasses import dataclass
 
 NODE, STRIPE, DOMAIN, SLOTS = range(65536), range(4096), range(256), range(1, 257)
+MOST_NODES = 512
 # The numbers of a lease, by their columns.
 TERMS = {"holder": range(1, 9), "epoch": range(1, 2**32 - 1), "expiry": range(1, 2**32 - 1)}
 MODES = ("active", "draining", "gone")
@@ -95,6 +97,21 @@ class Stripe:
     missing: int
     homeless: int
     homes: dict
+
+
+class Placement:
+    """Where a stripe lies: its code, whether it is whole, and the node of each home and of each target by fragment."""
+
+    def __init__(self, code, is_whole=True):
+        self.code, self.is_whole, self.homes, self.targets = code, is_whole, {}, {}
+
+    def beside(self, fragment):
+        """The nodes of the other fragments, each with whether it is of the same class."""
+        class_of = self.code.class_of
+        for placed in (self.homes, self.targets):
+            for other, node in placed.items():
+                if other != fragment:
+                    yield node, class_of[other] == class_of[fragment]
 
 
 def bars(one, other, same_class):
@@ -192,26 +209,46 @@ def rows_of(path, *headers):
     return rows
 
 
+def node_rows(path):
+    """The rows of a table of `show nodes`, each with its node, in its order."""
+    numbers, upgrading = set(), {}
+    for row in rows_of(path, NODES):
+        node = node_of(row)
+        if node.number in numbers:
+            row.refuse("node", "a node that is there twice")
+        numbers.add(node.number)
+        if upgrading.setdefault(node.upgrade, node.is_upgrading) != node.is_upgrading:
+            row.refuse("upgrading", "another node of the upgrade domain has another word")
+        if sum(upgrading.values()) > 1:
+            row.refuse("upgrading", "another upgrade domain is upgrading")
+        if len(numbers) > MOST_NODES:
+            row.refuse("node", f"more than {MOST_NODES} nodes")
+        yield row, node
+    if not numbers:
+        raise Refused(f"{path}: the table has no nodes")
+
+
+def node_of(row):
+    """The node of a row, in which each column is what the others say."""
+    flags = [row.flag(name) for name in ("down", "upgrading", "online")]
+    slots = row.number("slots", SLOTS)
+    counts = [row.number(name, range(slots + 1)) for name in ("homes", "targets", "load")]
+    if counts[0] + counts[1] != counts[2]:
+        row.refuse("load", "not the sum of homes and targets")
+    fault, upgrade = row.number("fault", DOMAIN), row.number("upgrade", DOMAIN)
+    node = Node(row.number("node", NODE), fault, upgrade, row.one_of("mode", MODES), *flags, *counts, slots)
+    if node.is_online != (node.mode != "gone" and not node.is_down and not node.is_upgrading):
+        row.refuse("online", "not what mode, down and upgrading say")
+    if node.mode == "gone" and node.is_down:
+        row.refuse("down", "a node that is gone is not down")
+    if node.mode == "gone" and node.load:
+        row.refuse("load", "a node that is gone holds nothing")
+    return node
+
+
 def nodes_of(path):
     """The nodes of a table of `show nodes`, by their numbers, in its order."""
-    nodes = {}
-    for row in rows_of(path, NODES):
-        number = row.number("node", NODE)
-        if number in nodes:
-            row.refuse("node", "a node that is there twice")
-        flags = [row.flag(name) for name in ("down", "upgrading", "online")]
-        slots = row.number("slots", SLOTS)
-        counts = [row.number(name, range(slots + 1)) for name in ("homes", "targets", "load")]
-        if counts[0] + counts[1] != counts[2]:
-            row.refuse("load", "not the sum of homes and targets")
-        fault, upgrade = row.number("fault", DOMAIN), row.number("upgrade", DOMAIN)
-        node = Node(number, fault, upgrade, row.one_of("mode", MODES), *flags, *counts, slots)
-        if node.is_online != (node.mode != "gone" and not node.is_down and not node.is_upgrading):
-            row.refuse("online", "not what mode, down and upgrading say")
-        nodes[number] = node
-    if not nodes:
-        raise Refused(f"{path}: the table has no nodes")
-    return nodes
+    return {node.number: node for _, node in node_rows(path)}
 
 
 def stripe_of(row):
@@ -245,6 +282,73 @@ def target_of(row):
     for column, within in TERMS.items():
         row.number(column, within)
     return row.seat("target")
+
+
+# Tables of one state
+
+
+class Seats:
+    """The seats that are held, of the nodes of a table."""
+
+    def __init__(self, nodes):
+        self.nodes, self.held = nodes, set()
+
+    def take(self, row, column, seat, placement, fragment, slot_column=None):
+        """The node of a seat for a fragment beside the others that its stripe has so far."""
+        node = self.nodes.get(seat[0])
+        if node is None or seat[1] >= node.slots:
+            row.refuse(slot_column if node and slot_column else column, "the table of nodes has no such seat")
+        if node.mode == "gone":
+            row.refuse(column, "the node of the seat is gone")
+        if seat in self.held:
+            row.refuse(slot_column or column, "the seat is held already")
+        if any(bars(self.nodes[other], node, same_class) for other, same_class in placement.beside(fragment)):
+            row.refuse(column, "another fragment of the stripe rules the node out")
+        self.held.add(seat)
+        return seat[0]
+
+
+def placements_of(path, leases, nodes):
+    """The stripes of a table of `show stripes` by number, and where each lies, with the targets of one of `show leases` if there
+    is one."""
+    stripes, placements, seats = {}, {}, Seats(nodes)
+    for row in rows_of(path, STRIPES):
+        stripe = stripe_of(row)
+        if stripe.number in stripes:
+            row.refuse("stripe", "a stripe that is there twice")
+        stripes[stripe.number], placements[stripe.number] = stripe, placement_of(row, stripe, seats)
+    for row in rows_of(leases, LEASES) if leases else ():
+        number = row.number("stripe", STRIPE)
+        if number not in placements:
+            row.refuse("stripe", "the table of stripes does not have it")
+        placement, target = placements[number], target_of(row)
+        fragment = row.number("fragment", range(placement.code.count))
+        if fragment in placement.targets:
+            row.refuse("fragment", "a lease that is there twice")
+        placement.targets[fragment] = seats.take(row, "target", target, placement, fragment)
+    return stripes, placements
+
+
+def placement_of(row, stripe, seats):
+    """Where the stripe of a row lies, of which only what has no home on an online node is missing."""
+    placement = Placement(stripe.code, stripe.level == "whole")
+    for fragment, seat in stripe.homes.items():
+        placement.homes[fragment] = seats.take(row, f"home_{fragment}", seat, placement, fragment)
+    away = sum(1 << fragment for fragment, node in placement.homes.items() if not seats.nodes[node].is_online)
+    if stripe.missing != stripe.homeless | away:
+        row.refuse("missing", "not the homeless fragments and those whose node is not online in the table of nodes")
+    return placement
+
+
+def expect_counts(nodes, placements, has_leases=True):
+    """Each node has as many homes as its row says, and as many targets if there is a table of leases."""
+    homes = Counter(node for placement in placements.values() for node in placement.homes.values())
+    targets = Counter(node for placement in placements.values() for node in placement.targets.values())
+    for number, node in nodes.items():
+        told = homes[number], targets[number] if has_leases else node.targets
+        if told != (node.homes, node.targets):
+            raise Refused(f"the tables are not of one state: node {number} has {node.homes} homes and {node.targets} targets "
+                          f"in the one, {told[0]} and {told[1]} in the others")
 
 
 def run(name, main):

@@ -4,15 +4,18 @@ Usage: tests/program/balance [--long | --write] [PROGRAM], by default the one th
 
 Thirty stores (300 with --long) with slots that differ, of which some have nodes that are down, gone or draining, a domain that
 upgrades, stripes at risk and leases under way; and the store of docs/OPERATING.md, of fifteen racks to which one comes. After each
-round what it leases is reported. Right is:
+round what it leases is reported, of some stores half of it only after the next round. Right is:
 - The program replies as the model does, and shows the same in the end. Each drain and undrain changes something, each lease is
   granted as a move, of a node above the mean to one below it. After the script each node is as before but for its leases.
 - After each command no stripe has a lower level or margin than before it. No fragment of a stripe at risk is leased, and no node
   has more leases than is allowed, of fragments that come or go, or than it had.
-- When the script is empty, no lawful move helps: each fragment is tried on each node by the model. So the share of each node is
-  near the mean where the rules allow it. The moves are at most an eighth more than the least possible, whatever the rules.
+- The first move of a round is of the fullest node that has one, to the emptiest. When the script is empty, no lawful move helps:
+  each fragment is tried on each node by the model. So the share of each node is near the mean where the rules allow it. The moves
+  are at most an eighth more than the least possible, whatever the rules.
 - With --dry it tells the spread that the model counts now, and after the last round; with --moves the leases that the model grants to
   the script, with the shares that it counts.
+- While the leases of a round keep the next one from being planned, standard error says so, and --dry tells what is left. A lease that
+  is live counts for the node that gives, too.
 - Tables of `show fragments`, as the model makes them, give the same script; and so does a book over HTTP, of members that a test
   plays: some are away, busy or wrong, and a book changes while it is read.
 - Tables of 300 stores of drawn calls are read, by stripe and by fragment alike. A table in which one column says something else is
@@ -52,6 +55,7 @@ class Run:
     def __init__(self, program, folder, nodes, count, name):
         self.program, self.folder, self.count, self.name = program, folder, count, name
         self.nodes, self.store, self.lines, self.replies = nodes, Store(nodes), [], []
+        self.late = []  # the reports of moves that are under way when the next round is planned
 
     def call(self, lines):
         replies = [self.store.call(1, line) for line in lines]
@@ -70,7 +74,7 @@ class Run:
     def tool(self, *words, homes=("stripes.csv", "leases.csv")):
         """What the tool prints, which is called as its command line is."""
         words, said = [TOOL, *words, *(f"{self.folder}/{name}" for name in ("nodes.csv", *homes))], io.StringIO()
-        with unittest.mock.patch.object(sys, "argv", words), contextlib.redirect_stdout(said):
+        with unittest.mock.patch.object(sys, "argv", words), contextlib.redirect_stdout(said), contextlib.redirect_stderr(io.StringIO()):
             status = tool().main()
         self.count.check(f"{self.name}: {words}: status {status}", status == 0)
         return said.getvalue().splitlines()
@@ -145,6 +149,28 @@ def helping_move(store, within):
     return None
 
 
+def can_move(store, source, target, within):
+    """Whether a fragment of a whole stripe may move from one node to another, which helps."""
+    loads, far = settled(store), distances(store)
+    gain = (2 * loads[source] - 1) / store.nodes[source].slots - (2 * loads[target] + 1) / store.nodes[target].slots
+    if far[source] <= 0 or far[target] >= 0 or max(far[source], -far[target]) <= within or gain <= 1e-9:
+        return False
+    idle = (key for key in store.homes_on(source) if key not in store.leases and not store.missing(key[0]))
+    return any(not store.barred(key) >> target & 1 for key in idle)
+
+
+def better_end(store, source, target, within, at_once):
+    """A fuller node that could give to the target of a move, or an emptier one that could take of its source; None if there is none.
+    Each has room for one lease more."""
+    loads, far, busy = settled(store), distances(store), leases_on(store)
+    behind = {node: (2 * loads[node] + 1) / store.nodes[node].slots for node in far}
+    free = [node for node in far if busy[node] < at_once]
+    fuller = [node for node in free if far[node] > far[source] and can_move(store, node, target, within)]
+    emptier = [node for node in free if far[node] < far[target] and behind[node] < behind[target]
+               and store.load(node) < store.nodes[node].slots and can_move(store, source, node, within)]
+    return (fuller + emptier or [None])[0]
+
+
 def least_moves(store, within):
     """No fewer moves bring each node that near to the mean: each takes one from one node, and gives one to one."""
     loads, mean = settled(store), mean_of(store)
@@ -191,8 +217,8 @@ def fragments_table(store):
 # Rounds.
 
 
-def one_round(run, script, at_once):
-    """Makes a round, with each promise checked command by command; returns how many fragments moved."""
+def one_round(run, script, at_once, is_late=False):
+    """Makes a round, with each promise checked command by command; returns how many fragments move. Some reports may be late."""
     store, count, name = run.store, run.count, run.name
     before, modes, limits, far = ranks(store), dict(store.mode), leases_on(store), distances(store)
     sunk = over = risky = False
@@ -218,11 +244,24 @@ def one_round(run, script, at_once):
     homes = [store.homes[int(words[1]), int(words[2])][0] for words in leases]
     count.check(f"{name}: a lease is not of a node above the mean", all(far[node] > 0 for node in homes))
     count.check(f"{name}: a node is in another mode", store.mode == modes)
-    done = run.call([f"done {words[1]} {words[2]} {words[5]}" for words in leases])
+    reports = [f"done {words[1]} {words[2]} {words[5]}" for words in leases]
+    in_time = len(reports) // 2 if is_late else len(reports)
+    done = run.call(run.late + reports[:in_time])
+    run.late = reports[in_time:]
     count.check(f"{name}: a report is refused", set(done) <= {"ended"})
     is_sunk = any(rank < before[stripe] for stripe, rank in ranks(store).items())
     count.check(f"{name}: a stripe is at a lower level at the end", not is_sunk)
     return len(leases)
+
+
+def look_at_first(run, script, within, at_once):
+    """The first move of a round is of the fullest node, to the emptiest."""
+    watch = copy.deepcopy(run.store)
+    replies = (watch.call(1, line).split(" ") for line in script)
+    words = next(words for words in replies if words[0] == "granted")
+    source, target = watch.homes[int(words[1]), int(words[2])][0], int(words[3].split(":")[0])
+    better = better_end(run.store, source, target, within, at_once)
+    run.count.check(f"{run.name}: the first move is from {source} to {target}, and {better} is fuller or emptier", better is None)
 
 
 def moves_of(store, script):
@@ -238,21 +277,24 @@ def moves_of(store, script):
     return rows
 
 
-def even_out(run, within, at_once):
-    """Makes rounds until none is left. Returns the least number of moves, and those made."""
+def even_out(run, within, at_once, late_rounds=0):
+    """Makes rounds until none is left; the first ones are planned anew when half is reported. Returns the least number of moves,
+    and those made."""
     words = ("--within", str(within), "--at-once", str(at_once))
     least, moves, rounds = least_moves(run.store, within), 0, 0
     run.tables()
-    is_idle = not run.store.leases
+    is_idle = not run.store.leases and not late_rounds
     dry = [row.split(",") for row in run.tool("--dry", *words)]
     run.count.check(f"{run.name}: --dry tells {dry[1:2]}", dry[1] == ["now", "0", "0", *spread(run.store, within)])
-    while script := run.tool(*words):
-        if rounds == 0:
+    while (script := run.tool(*words)) or run.late:
+        if rounds == 0 and script:
             run.write("fragments.csv", fragments_table(run.store))
             run.count.check(f"{run.name}: another script of fragments", run.tool(*words, homes=("fragments.csv",)) == script)
             told, right = run.tool("--moves", *words), moves_of(run.store, script)
             run.count.check(f"{run.name}: the moves {told}, and not {right}", told == right and len(told) > 1)
-        moves, rounds = moves + one_round(run, script, at_once), rounds + 1
+        if script:
+            look_at_first(run, script, within, at_once)
+        moves, rounds = moves + one_round(run, script, at_once, rounds < late_rounds), rounds + 1
         if not run.count.check(f"{run.name}: it does not end", rounds <= MOST_ROUNDS):
             break
         run.tables()
@@ -294,10 +336,46 @@ def drawn(count, program, how_many):
         with tempfile.TemporaryDirectory(prefix="lrcman-balance-") as folder:
             run = drawn_store(draw, program, folder, count, f"store {seed}")
             within = draw.choice([2, 5, 10])
-            found = even_out(run, within, draw.choice([1, 2, 4]))
+            found = even_out(run, within, draw.choice([1, 2, 4]), 2 * (seed % 3 == 2))
             if spread(run.store, within)[4:6] == ["0", "0"]:
                 least, moves = least + found[0], moves + found[1]
     count.check(f"{moves} moves, and {least} are the least possible", least <= moves <= least * 9 / 8)
+
+
+def under_way(count, program):
+    """A round that nobody has reported yet: no next one is planned, which standard error tells; --dry tells of the rounds that are left."""
+    nodes = {fault: Node(fault, fault % 10, 24) for fault in range(24)}
+    with tempfile.TemporaryDirectory(prefix="lrcman-balance-") as folder:
+        run = Run(program, folder, nodes, count, "a round under way")
+        run.call([*(f"fail {node}" for node in range(4)), *(f"place {stripe}" for stripe in range(15)), *(f"join {node}" for node in range(4))])
+        run.tables()
+        script, left, files = run.tool(), run.tool("--dry")[-1].split(","), [f"{folder}/{view}.csv" for view in VIEWS]
+        said = subprocess.run([TOOL, *files], capture_output=True, text=True).stderr
+        count.check(f"a round is planned, and {said!r} is told", script and said == "")
+        leases = sum(reply.startswith("granted") for reply in run.call(script))
+        run.tables()
+        ran = subprocess.run([TOOL, *files], capture_output=True, text=True)
+        told = f"tools/balance: {leases} leases are not yet reported: plan the next round then\n"
+        count.check(f"a round is under way: {ran.stdout!r}, {ran.stderr!r}", (ran.stdout, ran.stderr, ran.returncode) == ("", told, 0))
+        after = run.tool("--dry")[-1].split(",")
+        fewer = ["end", str(int(left[1]) - 1), str(int(left[2]) - leases), *left[3:]]
+        count.check(f"--dry tells {after}, and not {fewer}", after == fewer and int(after[1]) > 0)
+
+
+def one_at_a_time(count, program):
+    """A node that gives has one lease at a time: none is planned while one of its fragments is on the way, though all others may take."""
+    nodes = {fault: Node(fault, fault % 10, 6 if fault == 0 else 24) for fault in range(24)}
+    with tempfile.TemporaryDirectory(prefix="lrcman-balance-") as folder:
+        run = Run(program, folder, nodes, count, "one node gives")
+        run.call([f"place {stripe}" for stripe in range(4)])
+        run.tables()
+        moves = [row.split(",")[2] for row in run.tool("--moves", "--at-once", "1")[1:]]
+        run.call(run.tool("--at-once", "1"))
+        run.tables()
+        count.check(f"node 0 gives one: {moves}", moves == ["0"] and leases_on(run.store)[0] == 1)
+        for at_once in (1, 2):
+            more = [row.split(",")[2] for row in run.tool("--moves", "--at-once", str(at_once))[1:]]
+            count.check(f"with {at_once} at a time node 0 gives {more} more", more == ["0"] * (at_once - 1))
 
 
 def look_at_picture(count, folder, name, title):
@@ -534,6 +612,8 @@ def main(words):
     is_long = words[:1] == ["--long"]
     program, count = harness.program_of(words[words[:1] in (["--long"], ["--write"]):]), harness.Count()
     drawn(count, program, LONG if is_long else DRAWN)
+    under_way(count, program)
+    one_at_a_time(count, program)
     new_rack(count, program)
     read_right(count)
     refuse(count)

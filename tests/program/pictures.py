@@ -6,9 +6,10 @@ Right is, and nothing else:
 - a picture is XML; it has each node once, with its domains, mode, homes, targets and whether it is full, down, upgrading and
   online, inside the picture and over no other node; a grid has no more cells than half as many nodes again; it has the first
   stripes at risk once, in their order, each with its code and fragments, those without a home, those that are offline and
-  those that are leased apart, and the number of the others; it tells entries, clock, upgrading domain and leases;
-- with --load, each node that is not gone is counted once in the class of its share, in all and in its fault domain, in their order;
-- for tables that do not fit: status 2, one line on standard error with the place, and nothing on standard output.
+  those that are leased apart, and the levels of all and of the others; it tells entries, clock, upgrading domain and leases;
+- with --load, each node that is not gone is counted once in the class of its share, in all and in its fault domain, in their
+  order, with a line at the share of them all;
+- for tables that do not fit, alone or together: status 2, one line on standard error with the place, and nothing on standard output.
 The last line is 'N passed, M failed'."""
 import random
 import re
@@ -127,6 +128,12 @@ def leased_of(leases, row):
     return " ".join(lease["fragment"] for lease in leases if lease["stripe"] == row["stripe"])
 
 
+def told_levels(rows):
+    """How many of these stripes have which level, in words, the most urgent first."""
+    counts = Counter(f"with margin {row['margin']}" if row["level"] == "risk" else row["level"] for row in rows)
+    return ", ".join(f"{count:,} {kind}" for kind, count in counts.items())
+
+
 def right_stripes(picture, stripes, leases, most=40):
     wanted, risk = [], at_risk(stripes)
     for row in risk[:most]:
@@ -134,9 +141,11 @@ def right_stripes(picture, stripes, leases, most=40):
         told = "stripe {stripe}: {code}, {level}, margin {margin}, ".format(**row)
         told += "missing {}, homeless {}, leased {}".format(*words)
         wanted.append((f"stripe-{row['stripe']}", told, []))
-    more = [text.text for text in picture.iter(SVG + "text") if text.text and text.text.startswith("and ")]
-    told = f"and {len(risk) - most:,} more: "
-    return titles(picture, "stripe") == wanted and (more[0].startswith(told) if len(risk) > most else more == [])
+    texts = [text.text or "" for text in picture.iter(SVG + "text")]
+    more = [text for text in texts if text.startswith("and ")]
+    left = [f"and {len(risk) - most:,} more: {told_levels(risk[most:])}"] if len(risk) > most else []
+    told = f"{len(risk):,} in all: {told_levels(risk)}" if risk else "none: every stripe is whole"
+    return titles(picture, "stripe") == wanted and more == left and told in texts
 
 
 def right_fragments(picture, stripes, leases):
@@ -161,6 +170,11 @@ def right_fragments(picture, stripes, leases):
             return False
         if [word for word in words if word in COLUMNS] != [code.name]:
             return False
+        kind = f"risk-{row['margin']}" if row["level"] == "risk" else row["level"]
+        if [box.get("class") for box in group.iter(SVG + "rect") if box.get("rx")] != [kind]:
+            return False
+        if words[:4] != [row["stripe"], row["code"], row["level"], row["margin"]] or words[-1] != row["missing"][2:]:
+            return False
     return True
 
 
@@ -179,6 +193,23 @@ def right_words(picture, nodes, status):
         told.append(f"After entry {int(it['entries']):,}, at clock {int(it['clock']):,}: {int(it['stripes']):,} stripes, {domain} "
                     f"upgrading, {int(it['leases']):,} leases under way.")
     return all(words in texts for words in told)
+
+
+def labels(picture, kind):
+    """The numbers that stand outside of nodes, stripes and histograms in letters of a kind."""
+    inside = {text for group, _, _ in groups(picture) for text in group.iter(SVG + "text")}
+    return {int(text.text) for text in picture.iter(SVG + "text") if text.get("class") == kind and text not in inside}
+
+
+def right_domains(picture, nodes):
+    """A grid has the numbers of all domains beside it; in boxes each node has that of its upgrade domain below it."""
+    upgrades = {row["node"]: row["upgrade"] for row in nodes}
+    below = [(one.get("id"), other.text) for group in picture.iter(SVG + "g") for one, other in zip(group, list(group)[1:])
+             if (one.get("id") or "").startswith("node-") and other.tag == SVG + "text"]
+    if below:
+        return sorted(below) == sorted((f"node-{node}", f"u {upgrade}") for node, upgrade in upgrades.items())
+    wanted = [{int(row[kind]) for row in nodes} for kind in ("fault", "upgrade")]
+    return [labels(picture, "middle bold"), labels(picture, "end bold")] == wanted
 
 
 def right_room(picture, nodes):
@@ -212,17 +243,19 @@ def look(count, name, ran, tables, most=40):
     count.check(f"{name}: its words", right_words(picture, nodes, status))
     count.check(f"{name}: its places", right_places(picture))
     count.check(f"{name}: its room", right_room(picture, nodes))
+    count.check(f"{name}: its domains", right_domains(picture, nodes))
 
 
 def right_load(picture, nodes):
     """Each histogram with its counts, and bars as high as they say."""
-    wanted = []
+    wanted, shares, means = [], [], []
     there = [row for row in nodes if row["mode"] != "gone"]
     faults = sorted({int(row["fault"]) for row in there})
     racks = [(f"fault {it}", [row for row in there if row["fault"] == str(it)]) for it in faults]
     for words, rows in [("all nodes", there), *racks]:
         bins = Counter(min(19, 20 * int(row["load"]) // int(row["slots"])) for row in rows)
         held, slots = (sum(int(row[name]) for row in rows) for name in ("load", "slots"))
+        shares.append(100 * held / slots)
         told = ", ".join(f"{5 * at} to {5 * at + 5} %: {bins[at]}" for at in sorted(bins))
         wanted.append((f"{words}: {len(rows)} nodes, share {100 * held / slots:.1f} %; {told}", [bins[at] for at in sorted(bins)]))
     found = []
@@ -230,10 +263,12 @@ def right_load(picture, nodes):
         if group.get("class") == "shares":
             bars = [float(box.get("height")) for box in group.iter(SVG + "rect")]
             counts = [int(text.text) for text in group.iter(SVG + "text") if text.get("class") == "middle under"]
+            means.extend(float(path.get("d")[1:].split(",")[0]) for path in group.iter(SVG + "path"))
             found.append((group.find(SVG + "title").text, counts))
             if any(abs(bar * counts[0] - bars[0] * it) > 0.1 * (it + counts[0]) for bar, it in zip(bars, counts, strict=True)):
                 return False
-    return found == wanted
+    # (a class of five points is thirty wide, and the first begins at 110)
+    return found == wanted and all(abs(mean - 110 - 6 * share) <= 0.1 for mean, share in zip(means, shares, strict=True))
 
 
 def look_at_load(count, name, folder, tables):
@@ -293,50 +328,44 @@ def wide_topologies():
     yield "one node", {65535: Node(255, 255, 256)}
 
 
-def all_stripes():
-    """A table of 4,096 stripes, of every level, narrow and wide."""
-    row, store, lines = random.Random(1), {"wide": WIDE, "narrow": NARROW}, [STRIPES]
-    for number in range(4096):
-        code = store["narrow" if number % 3 == 2 else "wide"]
-        missing = sum({1 << row.choice(code.fragments) for _ in range(row.randrange(7))})
-        homeless = missing & row.choice([0, missing, row.randrange(65536)])
-        margin = shown.rules.margin(code, missing)
-        is_lost = not shown.rules.is_recoverable(code, homeless)
-        level = "lost" if is_lost else "unavailable" if margin is None else "risk" if missing else "whole"
-        homes = ["-" if homeless >> it & 1 else "0:0" for it in code.fragments] + [""] * (16 - len(code.fragments))
-        fields = [number, code.name, level, "-" if margin is None else margin, *shown.mask(missing), *shown.mask(homeless), *homes]
-        lines.append(",".join(map(str, fields)))
-    return "\n".join([*lines, ""])
-
-
-def some_nodes(nodes):
-    """A table of nodes with every mode, online and not, full and not."""
-    lines = [NODES]
-    for at, (number, node) in enumerate(nodes.items()):
-        mode, down, upgrading = ("active", "active", "draining", "draining", "gone")[at % 5], at % 5 in (1, 3), at % 7 == 0
-        targets = 0 if at % 5 == 4 else at % 2 * (at % (node.slots + 1) > 0)
-        load = 0 if at % 5 == 4 else at % (node.slots + 1)
-        flags = map(shown.yes, (down, upgrading, mode != "gone" and not down and not upgrading))
-        fields = [number, node.fault, node.upgrade, mode, *flags, load - targets, targets, load, node.slots]
-        lines.append(",".join(map(str, fields)))
-    return "\n".join([*lines, ""])
+def filled(nodes):
+    """A store with nodes of every mode, full and not, and stripes of every level, narrow and wide: 4,096, most of them lost where
+    there are few seats."""
+    row, store = random.Random(1), Store(nodes)
+    for at, node in enumerate(nodes):
+        store.set_mode(node, ("active", "active", "draining", "draining", "gone")[at % 5], at % 5 in (1, 3))
+    store.set_upgrading(next((node.upgrade for node in nodes.values() if node.upgrade == 7), None))
+    there = [node for node in nodes if store.mode[node] != "gone"]
+    for stripe in range(4096):
+        code = NARROW if stripe % 3 == 2 else WIDE
+        store.add_stripe(stripe, code)
+        homeless = {row.choice(code.fragments) for _ in range(row.randrange(7))}
+        for fragment in code.fragments:
+            node = next((it for it in row.sample(there, min(3, len(there))) if store.load(it) < store.nodes[it].slots), None)
+            if node is not None and fragment not in homeless and not store.barred((stripe, fragment)) >> node & 1:
+                store.set_home((stripe, fragment), (node, store.free_slot(node)))
+    for _ in range(50):
+        store.call(1, "next")
+    return store
 
 
 def wide(count, folder):
-    stripes = all_stripes()
     for name, nodes in wide_topologies():
-        tables = {"nodes": some_nodes(nodes), "stripes": stripes}
+        tables = tables_of(filled(nodes), 0)
         look(count, name, draw(folder, tables, "--rows", "1500"), tables, 1500)
         look_at_load(count, name, folder, tables)
-    tables = {"nodes": some_nodes({0: Node(0, 0, 4)}), "stripes": STRIPES + "\n"}
+    tables = tables_of(Store({0: Node(0, 0, 4)}), 0)
     ran = draw(folder, tables, "--title", 'a<b>&"\x01 c')
     look(count, "a title with odd letters", ran, tables)
     count.check("a title with odd letters is shown", 'a&lt;b&gt;&amp;"'.encode() in ran.stdout)
 
 
+# Seventeen nodes, of which the first is empty; a stripe without its fragment 0, which is leased.
 NODE = "0,0,0,active,no,no,yes,0,0,0,4"
-STRIPE = "7,wide,risk,2,0x0001,0,0x0001,0,-" + ",0:0" * 15
-STATUS = "name,value\nstripes,1\nleases,0\nclock,3\nentries,9\nupgrading,none\n"
+OTHERS = "".join(f"{it},{it},{it},active,no,no,yes,{int(it < 16)},{it // 16},1,4\n" for it in range(1, 17))
+STRIPE = "7,wide,risk,2,0x0001,0,0x0001,0,-" + "".join(f",{it}:0" for it in range(1, 16))
+STATUS = "name,value\nstripes,1\nleases,1\nclock,3\nentries,9\nupgrading,none\n"
+LEASE = "7,0,1,16:0,1,3"
 LEASES = "stripe,fragment,holder,target,epoch,expiry\n"
 # A row of a table in place of the right one, and where and why it is refused.
 BAD_ROWS = [
@@ -362,23 +391,43 @@ BAD_ROWS = [
     ("stripes", STRIPE.replace("0,0x0001", "0,0x0003"),
      "stripes.csv: line 2, column homeless: not among the missing fragments: '0x0003'"),
     ("stripes", f"{STRIPE}\n{STRIPE}", "stripes.csv: line 3, column stripe: a stripe that is there twice: '7'"),
+    ("stripes", STRIPE.replace(",9:0", ",99:0"), "stripes.csv: line 2, column home_9: the table of nodes has no such seat: '99:0'"),
+    ("stripes", STRIPE.replace(",9:0", ",9:4"), "stripes.csv: line 2, column home_9: the table of nodes has no such seat: '9:4'"),
+    ("stripes", STRIPE.replace(",9:0", ",8:1"),
+     "stripes.csv: line 2, column home_9: another fragment of the stripe rules the node out: '8:1'"),
+    ("stripes", STRIPE.replace("7,", "8,", 1), "leases.csv: line 2, column stripe: the table of stripes does not have it: '7'"),
+    ("stripes", STRIPE.replace(",15:0", ",0:0"),
+     "the tables are not of one state: node 0 has 0 homes and 0 targets in the one, 1 and 0 in the others"),
     ("leases", "7,0,9,0:0,1,3", "leases.csv: line 2, column holder: not a number of its range, 1 to 8: '9'"),
-    ("leases", "7,16,1,0:0,1,3", "leases.csv: line 2, column fragment: not a number of its range, 0 to 15: '16'"),
-    ("status", "stripes,2\nleases,0\nclock,3\nentries,9\nupgrading,none",
-     "the tables are not of one state: the status has 2 stripes, and there are 1"),
+    ("leases", "7,16,1,16:0,1,3", "leases.csv: line 2, column fragment: not a number of its range, 0 to 15: '16'"),
+    ("leases", "7,0,1,99:0,1,3", "leases.csv: line 2, column target: the table of nodes has no such seat: '99:0'"),
+    ("leases", f"{LEASE}\n{LEASE}", "leases.csv: line 3, column fragment: a lease that is there twice: '0'"),
+    ("leases", "7,0,1,0:0,1,3",
+     "the tables are not of one state: node 0 has 0 homes and 0 targets in the one, 0 and 1 in the others"),
+    ("status", "stripes,2\nleases,1\nclock,3\nentries,9\nupgrading,none",
+     "status.csv: line 2, column value: the other tables have 1: '2'"),
+    ("status", "stripes,1\nleases,0\nclock,3\nentries,9\nupgrading,none",
+     "status.csv: line 3, column value: the other tables have 1: '0'"),
+    ("status", "stripes,1\nleases,1\nclock,3\nentries,9\nupgrading,3",
+     "status.csv: line 6, column value: the other tables have none: '3'"),
+    ("status", "stripes,1\nleases,1\nclock,3\nentries,9\nupgrading,none\nclock,4",
+     "status.csv: line 7, column name: a name that is there twice: 'clock'"),
     ("status", "stripes,1\nleases,x\nclock,3\nentries,9\nupgrading,none",
      "status.csv: line 3, column value: not a number of its range, 0 to 9223372036854775807: 'x'"),
-    ("status", "stripes,1\nleases,0\nclock,3\nupgrading,none", "status.csv: there is no row entries"),
-    ("status", "stripes,1\nleases,0\nclock,3\nentries,9\nupgrading,256",
+    ("status", "stripes,1\nleases,1\nclock,3\nupgrading,none", "status.csv: there is no row entries"),
+    ("status", "stripes,1\nleases,1\nclock,3\nentries,9\nupgrading,256",
      "status.csv: line 6, column value: not a number of its range, 0 to 255: '256'"),
 ]
 
 
 def refusals():
     """Yields tables, the words before them, and why they are refused."""
-    right = {"nodes": f"{NODES}\n{NODE}\n", "stripes": f"{STRIPES}\n{STRIPE}\n", "status": STATUS, "leases": LEASES}
+    right = {"nodes": f"{NODES}\n{NODE}\n{OTHERS}", "stripes": f"{STRIPES}\n{STRIPE}\n", "status": STATUS,
+             "leases": f"{LEASES}{LEASE}\n"}
     for view, row, why in BAD_ROWS:
         yield right | {view: f"{right[view].splitlines()[0]}\n{row}\n"}, [], why
+    yield {"nodes": right["nodes"], "status": STATUS.replace("leases,1", "leases,2")}, ["--load"], \
+        "status.csv: line 3, column value: the other tables have 1: '2'"
     yield {"nodes": right["nodes"]}, [], "there is no table of `show stripes`"
     yield {"stripes": right["stripes"]}, [], "there is no table of `show nodes`"
     yield {"stripes": right["stripes"]}, ["--load"], "there is no table of `show nodes`"

@@ -4,12 +4,14 @@ Usage: tests/program/takeover [PROGRAM], by default the program that `rt ci` or 
 
 Ten stores, the first of 300 stripes laid out by racks alone, others with seats that are held twice, nodes that are unknown or gone,
 slots that are none or not told, domains that are few, and narrow stripes. Right is, of each, after one run:
-- The image is one that the program and the model open. A seat of HOMES stands in it, or has a row of the report, and not both.
+- The image is one that the program and the model open, and has each node in the mode of its table, down or upgrading. A seat of
+  HOMES stands in it, or has a row of the report, and not both; a slot that is not told is the least that no row claims.
 - The model refuses each seat of the report, put back into the image, for the cause of its row, which names a fragment in the way.
 - The homes that stay leave a stripe the greatest margin that any set of them leaves, and of these the fewest are left out: of
   some stripes of each store, for which each set is looked at.
 - The program and the report agree which stripes are lost; the status is 4 if one is. After the moves that are needed, made in their
-  order, none is, and no fewer would do; after all moves no seat breaks a rule but those without a step.
+  order, none is, and no fewer would do; after all moves no seat breaks a rule but those without a step. What is needed comes first,
+  of stripes first that one fault domain would take, then the rest by margin; no node gets anything that is not active and online.
 Bad input is refused by file, line and column. The last line is 'N passed, M failed'."""
 import csv
 import os
@@ -65,18 +67,26 @@ def drawn_homes(draw, shape, nodes):
     return homes
 
 
+def drawn_script(draw, nodes, gone):
+    """Nodes that are down, draining, or both, and a domain that upgrades: none of them takes anything."""
+    down, draining, both = draw.sample(sorted(nodes.keys() - gone), 3)
+    return [f"down {down}", f"drain {draining}", f"drain {both}", f"down {both}", f"upgrade {nodes[draining].upgrade}"]
+
+
 def text_of(homes):
     return "\n".join([HEADER, *(",".join("" if field is None else str(field) for field in home) for home in homes), ""])
 
 
 class Tool:
-    """The tool in a folder, with the nodes of a store and some that are gone."""
+    """The tool in a folder, with the nodes of a store, of which some are gone, and others as a script leaves them."""
 
-    def __init__(self, program, folder, nodes, gone):
+    def __init__(self, program, folder, nodes, gone, script=()):
         self.program, self.folder, self.nodes, self.gone = program, folder, nodes, gone
         self.topology = topology_of(nodes).encode()
-        script = "".join(f"fail {node}\n" for node in gone).encode()
-        self.write("nodes.csv", self.show("nodes", self.topology + b"%%\n" + script))
+        lines = "".join(f"{line}\n" for line in [*(f"fail {node}" for node in gone), *script]).encode()
+        table = self.show("nodes", self.topology + b"%%\n" + lines)
+        self.write("nodes.csv", table)
+        self.table = table.decode().splitlines()
 
     def write(self, name, data):
         with open(f"{self.folder}/{name}", "wb") as file:
@@ -92,6 +102,10 @@ class Tool:
         with open(f"{self.folder}/report.csv", encoding="utf-8") as file:
             return ran, ran.stdout, list(csv.DictReader(file))
 
+    def nodes_after(self, image):
+        """The table of nodes of an image, without the numbers of its homes."""
+        return without_homes(self.show("nodes", image.encode() + self.topology).decode().splitlines())
+
     def lost(self, image):
         """The stripes that the program counts as lost, of an image."""
         rows = csv.DictReader(self.show("stripes", image.encode() + self.topology).decode().splitlines())
@@ -99,6 +113,23 @@ class Tool:
 
 
 # What is right.
+
+
+def without_homes(table):
+    """A table of nodes without the numbers of homes and held slots."""
+    return [row.split(",")[:7] + row.split(",")[-1:] for row in table]
+
+
+def told_slots(tool, homes):
+    """The slot of each fragment: the one that is told, or else the least of its node that no row claims; None if there is none."""
+    claimed = {(home.node, home.slot) for home in homes if home.node not in tool.gone}  # (nobody holds a seat of one that is gone)
+    slots = {(home.stripe, home.fragment): home.slot for home in homes}
+    for home in homes:
+        if home.slot is None and home.node in tool.nodes:
+            free = (slot for slot in range(tool.nodes[home.node].slots) if (home.node, slot) not in claimed)
+            slots[home.stripe, home.fragment] = slot = next(free, None)
+            claimed |= {(home.node, slot)} if home.node not in tool.gone else set()
+    return slots
 
 
 def seats_in(image):
@@ -173,8 +204,13 @@ def look(count, name, tool, homes):
         return None
     store, _ = rules.Store.begin(tool.nodes, image)
     count.check(f"{name}: a seat is in the image or in the report", kept.keys() | left == told.keys() and not kept.keys() & left)
-    same = all(told[key] in (seat, (seat[0], None)) for key, seat in kept.items())
+    slots = told_slots(tool, homes)
+    same = all((told[key][0], slots[key]) == seat for key, seat in kept.items())
     count.check(f"{name}: a seat of the image is another one", same)
+    told_seats = {(int(row["stripe"]), int(row["fragment"])): row["seat"] for row in report}
+    wrong = {key: seat for key, seat in told_seats.items() if seat != f"{told[key][0]}:{'' if slots[key] is None else slots[key]}"}
+    count.check(f"{name}: {len(wrong)} seats of the report are others, as {list(wrong.items())[:1]}", not wrong)
+    count.check(f"{name}: a node of the image is another one", tool.nodes_after(image) == without_homes(tool.table))
     causes = causes_of(tool, kept | first_claims(told, report), report)
     wrong = [row for row, cause in zip(report, causes) if not REASONS[row["reason"]] == int(row["cause"]) == cause]
     count.check(f"{name}: {len(wrong)} seats have another cause, as {wrong[:1]}", not wrong)
@@ -185,13 +221,19 @@ def look(count, name, tool, homes):
     count.check(f"{name}: the report has other lost stripes", told_lost == lost & {key[0] for key in left})
     count.check(f"{name}: status {ran.returncode}", ran.returncode == (4 if lost else 0))
     levels = {row["stripe"]: (row["level"], row["margin"]) for row in report}
-    margins = {key[0]: store.margin(key[0]) for key in left}
-    right = {str(it): (store.level(it), "-" if margin is None else str(margin)) for it, margin in margins.items()}
+    margins = {key[0]: margin_of(store, key[0]) for key in left}
+    right = {str(it): ("lost", "-") if margin is None else ("risk", str(margin)) for it, margin in margins.items()}
     count.check(f"{name}: the levels of the report are those of the model", levels == right)
     words = f"{len(tool.codes)} stripes, {len(homes)} homes; {len(report)} break a rule; {len(lost)} stripes are lost in the image"
     words += f", and {sum(row['needed'] == 'yes' for row in report)} moves mend that"
     count.check(f"{name}: it tells {ran.stderr}", ran.stderr == f"tools/takeover: {words}\n")
     return image, report, lost
+
+
+def margin_of(store, stripe):
+    """The margin of a stripe if all its nodes were online; None if it is lost."""
+    code = store.stripes[stripe]
+    return rules.margin(code, set_of(it for it in code.fragments if (stripe, it) not in store.homes))
 
 
 def first_claims(told, report):
@@ -248,12 +290,27 @@ def moved(homes, rows):
     return list(seats.values())
 
 
+def is_exposed(tool, homes, stripe):
+    """Whether the store as it stands would lose a stripe with one fault domain."""
+    faults, code = {}, tool.codes[stripe]
+    for home in homes:
+        if home.stripe == stripe and home.node in tool.nodes:
+            faults.setdefault(tool.nodes[home.node].fault, []).append(home.fragment)
+    absent = set(code.fragments) - {home.fragment for home in homes if home.stripe == stripe}
+    return any(not rules.is_recoverable(code, set_of({*absent, *fragments})) for fragments in faults.values())
+
+
 def look_at_moves(count, name, tool, homes, report):
     steps = [row for row in report if row["step"]]
     count.check(f"{name}: the steps are counted", [int(row["step"]) for row in steps] == list(range(1, len(steps) + 1)))
     count.check(f"{name}: a row without a step has a seat", all((row["move_to"] == "-") == (row["step"] == "") for row in report))
     needed = [row for row in steps if row["needed"] == "yes"]
-    count.check(f"{name}: what is needed comes first", steps[:len(needed)] == needed)
+    exposed = {row["stripe"] for row in needed if is_exposed(tool, homes, int(row["stripe"]))}
+    urgency = [(0, row["stripe"] not in exposed) if row["needed"] == "yes" else (1, -1 if row["level"] == "lost" else int(row["margin"]))
+               for row in steps]
+    count.check(f"{name}: what is needed comes first, and what is urgent of that and of the rest", urgency == sorted(urgency))
+    online = {int(row[0]) for row in without_homes(tool.table)[1:] if row[3] == "active" and row[6] == "yes"}
+    count.check(f"{name}: a move to a node that takes nothing", all(int(row["move_to"].split(":")[0]) in online for row in steps))
     # (a slot that was not told is the one of the report or of the image)
     ran, image, after = tool.run(moved(homes, needed))
     hopeless = {row["stripe"] for row in report if row["level"] == "lost"} - {row["stripe"] for row in needed}
@@ -272,8 +329,9 @@ def drawn(count, program):
         nodes = drawn_nodes(draw, shape)
         homes = drawn_homes(draw, shape, nodes)
         gone = draw.sample(sorted(nodes), 2) if shape.wrong else []
+        script = drawn_script(draw, nodes, gone) if shape != SHAPES[0] else []
         with tempfile.TemporaryDirectory(prefix="lrcman-takeover-") as folder:
-            tool, name = Tool(program, folder, nodes, gone), f"store {seed}"
+            tool, name = Tool(program, folder, nodes, gone, script), f"store {seed}"
             found = look(count, name, tool, homes)
             if not found:
                 continue
@@ -310,6 +368,28 @@ def by_hand(count, program):
             count.check(f"{name}: {ran.stderr} {lines[1:]}", lines[1:] == right and ran.returncode == 0)
 
 
+# Two stripes that would be lost, node and slot by fragment: the first for upgrade domains alone, the second on few nodes, so that one
+# fault domain would take it. Its moves come first.
+BY_UPGRADES = [(node, 0) for node in (0, 10, 1, 11, 2, 12, 4, 14, 5, 15, 6, 16, 3, 7, 8, 9)]
+ON_FEW_NODES = [*((17, slot) for slot in range(4)), (0, 1), (1, 1), *((18, slot) for slot in range(3)),
+                *((node, 1) for node in (3, 4, 5, 2, 6, 8, 9))]
+
+
+def two_stripes(count, program):
+    """Which of two stripes has its moves first; and which slots they have, where those of the first are not told."""
+    with tempfile.TemporaryDirectory(prefix="lrcman-takeover-") as folder:
+        tool = Tool(program, folder, harness.nodes_in_order(20, 4), [])
+        seats = {1: BY_UPGRADES, 2: ON_FEW_NODES}
+        homes = [Home(stripe, "wide", it, *seat) for stripe in seats for it, seat in enumerate(seats[stripe])]
+        _, report, lost = look(count, "two lost stripes", tool, homes)
+        look_at_moves(count, "two lost stripes", tool, homes, report)
+        needed = [row["stripe"] for row in report if row["needed"] == "yes"]
+        count.check(f"two lost stripes: {lost}, with the moves of {needed}", lost == {1, 2} and needed == ["2", "1", "1"])
+        homes = [Home(stripe, "wide", it, node, slot) for stripe, slot in ((1, None), (2, 0)) for it, node in enumerate(WIDE_SEATS)]
+        _, report, _ = look(count, "slots that are not told", tool, homes)
+        count.check(f"slots that are not told: {report}", report == [])
+
+
 # Bad input.
 
 GOOD_HOMES = f"{HEADER}\n1,wide,0,3,0\n1,wide,1,4,\n2,narrow,9,5,1\n"
@@ -339,7 +419,29 @@ BAD_NODES = [
     ("1,0,0,active,no,no,yes,5,0,5,4", "line 3, column homes: not a number of its range, 0 to 4: '5'"),
     ("1,0,0,active,no,no,yes,1,1,1,4", "line 3, column load: not the sum of homes and targets: '1'"),
     ("1,0,0,active,no,no,yes,0,0,0,257", "line 3, column slots: not a number of its range, 1 to 256: '257'"),
+    ("1,0,0,gone,yes,no,no,0,0,0,4", "line 3, column down: a node that is gone is not down: 'yes'"),
+    ("1,0,0,gone,no,no,no,1,0,1,4", "line 3, column load: a node that is gone holds nothing: '1'"),
+    ("1,0,0,active,no,yes,no,0,0,0,4", "line 3, column upgrading: another node of the upgrade domain has another word: 'yes'"),
+    ("1,0,1,active,no,yes,no,0,0,0,4\n2,0,2,gone,no,yes,no,0,0,0,4",
+     "line 4, column upgrading: another upgrade domain is upgrading: 'yes'"),
+    ("\n".join(f"{it},0,0,active,no,no,yes,0,0,0,4" for it in range(1, 513)), "line 514, column node: more than 512 nodes: '512'"),
+    ("1,0,0,active,no,no,yes,1,0,1,4", "line 3, column load: the node holds seats of stripes that the image would not have: '1'"),
 ]
+
+
+def keep_inputs(count, nodes):
+    """A report that would take the place of a table is refused, whatever path names it."""
+    with tempfile.TemporaryDirectory(prefix="lrcman-takeover-") as folder:
+        texts = {"nodes.csv": nodes, "homes.csv": GOOD_HOMES}
+        for name, text in texts.items():
+            with open(f"{folder}/{name}", "w", encoding="utf-8") as out:
+                out.write(text)
+        os.link(f"{folder}/homes.csv", f"{folder}/linked.csv")
+        for report in ("nodes.csv", "homes.csv", "./homes.csv", "linked.csv"):
+            ran = subprocess.run([TOOL, *texts, report], cwd=folder, capture_output=True, text=True)
+            line = f"tools/takeover: {report}: the report would take the place of a table\n"
+            are_kept = all(harness.read(f"{folder}/{name}").decode() == text for name, text in texts.items())
+            count.check(f"{report} as the report: {ran.stderr}", (ran.returncode, ran.stdout, ran.stderr) == (2, "", line) and are_kept)
 
 
 def refuse(count):
@@ -357,6 +459,7 @@ def refuse(count):
             ran = subprocess.run([TOOL, "nodes.csv", "homes.csv", "report.csv"], cwd=folder, capture_output=True, text=True)
             right = (ran.returncode, ran.stdout, ran.stderr) == (2, "", f"tools/takeover: {name}: {why}\n")
             count.check(f"{why}: {ran.stderr}", right and not os.path.exists(f"{folder}/report.csv"))
+    keep_inputs(count, node)
     for words in ([], ["a"], ["a", "b", "c", "d"], ["a", "b", "c"]):
         ran = subprocess.run([TOOL, *words], capture_output=True, text=True)
         is_line = ran.stderr.startswith("tools/takeover: ") and ran.stderr.count("\n") == 1
@@ -367,6 +470,7 @@ def main(words):
     program, count = harness.program_of(words), harness.Count()
     drawn(count, program)
     by_hand(count, program)
+    two_stripes(count, program)
     refuse(count)
     return count.report()
 
