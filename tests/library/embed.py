@@ -5,6 +5,7 @@ Usage: tests/library/embed [--long] [FOLDER], where FOLDER has what examples/emb
 - The header is compared with lrc_records, lrc_walks, lrc_changes and lrc_embed: each struct's size, each field's offset and type, each
   function, each constant; and the structs and constants of the Python module with the header. Compilers take it without a
   warning, and refuse another layout of its structs.
+- The module, the crates, the package for Go and the class in C++ call each function of the header but those that are named here.
 - The examples in C, C++, Python and Rust print what the rules ask for, and refuse a library of another version.
 - Lines of commands are read and written, and words told, as the pages say (tests/library/texts.py).
 - The Python module refuses numbers that a field would cut down, closes a book that is no longer used, and replays in pieces,
@@ -22,6 +23,7 @@ Usage: tests/library/embed [--long] [FOLDER], where FOLDER has what examples/emb
 
 What is left out for want of a compiler or tool is printed. The last line is 'N passed, M failed'."""
 import ctypes
+import glob
 import hashlib
 import os
 import re
@@ -339,6 +341,28 @@ def test_module(count, structs, constants):
     count.check(f"the module's limits: {own}", own == limits() and len(own) == 3)
 
 
+# Where each language calls the library, and which functions it leaves out: where another one says more, and in C++ the texts that a
+# program which does not print needs not.
+BINDINGS = {
+    "Python": ("examples/embed/lrc_embed.py", ""),
+    "Rust": ("examples/embed/rust/lrc-embed/src/*.rs", ""),
+    "Go": ("service/book/*.go", "call command_name command_fields"),
+    "C++": ("examples/embed/late_worker.cpp", """
+        matrix recipe_of command_line read_command command_name command_fields forecast_table reply_line reply_name level_name
+        mode_name code_name repair_name cause_words line_words nodes_words"""),
+}
+
+
+def test_bindings(count):
+    """Each language calls all functions of the header but those that are named."""
+    declared = set(re.findall(r"^uint32_t lrc_embed_(\w+)\(", read(f"{INCLUDE}/lrc_embed.h"), re.M))
+    for name, (files, left) in BINDINGS.items():
+        text = "".join(read(it) for it in sorted(glob.glob(f"{TOP}/{files}")) if not it.endswith("_test.go"))
+        called = {it for it in declared if re.search(rf"\blrc_embed_{it}\b|\"{it}\"", text)}
+        count.check(f"{name} lacks {declared - called - set(left.split())}", declared - called <= set(left.split()))
+        count.check(f"{name} has {called & set(left.split())}", not called & set(left.split()))
+
+
 # The examples.
 
 
@@ -347,7 +371,7 @@ def example_commands(room, library, links):
     links = [f"{room}/liblrc_embed.a", *links]
     to = {name: f"{room}/late_worker_{name}" for name in ("c", "cpp", "rs")}
     yield "C", CC, [CC, "-std=c11", "-O2", *STRICT, "-I", INCLUDE, f"{EMBED}/late_worker.c", *links, "-o", to["c"]], [to["c"]]
-    cpp = [CXX, "-std=c++17", "-O2", *STRICT, "-I", INCLUDE, f"{EMBED}/late_worker.cpp", *links, "-o", to["cpp"]]
+    cpp = [CXX, "-std=c++17", "-O2", "-pthread", *STRICT, "-I", INCLUDE, f"{EMBED}/late_worker.cpp", *links, "-o", to["cpp"]]
     yield "C++", CXX, cpp, [to["cpp"]]
     yield "Python", sys.executable, None, [sys.executable, f"{EMBED}/late_worker.py", library]
     rust = ["rustc", "--edition", "2024", "-D", "warnings", "-O", f"{EMBED}/late_worker.rs"]
@@ -575,6 +599,7 @@ def main(words):
             return count.report()
         library = f"{room}/liblrc_embed.so"
         test_header(count, room)
+        test_bindings(count)
         test_examples(count, room, library)
         test_versions(count, room)
         module.test(count, ctypes.CDLL(library))
