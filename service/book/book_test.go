@@ -5,7 +5,9 @@ import (
 	"errors"
 	"fmt"
 	"math/rand"
+	"os"
 	"reflect"
+	"regexp"
 	"strings"
 	"testing"
 )
@@ -253,10 +255,27 @@ func TestFaultsAreWordsOfThePages(t *testing.T) {
 		"no node is in the upgrading domain: image 4 cause 1":                                   image("upgrading 10"),
 		"each count of the row is 0: image 4 cause 5":                                           image("granted 1" + strings.Repeat(" 0", 16)),
 	} {
-		if err == nil || err.Error() != want || !IsOfText(err) {
-			t.Errorf("%v, and not %q", err, want)
+		if err == nil || err.Error() != want || !IsOfText(err) || !isOnThePage(t, want) {
+			t.Errorf("%v, and not %q, or not as the page has it", err, want)
 		}
 	}
+}
+
+// isOnThePage tells whether docs/FORMATS.md has the words of a fault beside its line: "there is no such node: node 20".
+func isOnThePage(t *testing.T, fault string) bool {
+	t.Helper()
+	page, err := os.ReadFile("../../docs/FORMATS.md")
+	if err != nil {
+		t.Fatal(err)
+	}
+	words, line, _ := strings.Cut(fault, ": ")
+	line = regexp.MustCompile(`\b\d+\b`).ReplaceAllString(line, "#")
+	for _, row := range regexp.MustCompile("(?m)^\\| `(.*)` \\| (.*) \\|$").FindAllStringSubmatch(string(page), -1) {
+		if regexp.MustCompile(`\b([A-Z]|\d+)\b`).ReplaceAllString(row[1], "#") == line && row[2] == words {
+			return true
+		}
+	}
+	return false
 }
 
 // drawn is a command whose numbers are often there.
@@ -317,7 +336,7 @@ func TestForecastsNameNodesAndDomains(t *testing.T) {
 	} {
 		found, isSafe, err := b.ShowForecast(Stop, it.nodes)
 		if err != nil || it.err != "" {
-			if err == nil || err.Error() != it.err {
+			if err == nil || err.Error() != it.err || !isOnThePage(t, it.err) {
 				t.Errorf("%+v: %v", it.nodes, err)
 			}
 			continue

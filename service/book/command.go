@@ -17,24 +17,24 @@ type Kind uint8
 
 // The kinds of commands.
 const (
-	Place    Kind = 1
-	Drop     Kind = 2
-	Lease    Kind = 3
-	Next     Kind = 4
-	Done     Kind = 5
-	Abandon  Kind = 6
-	Revoke   Kind = 7
-	Fail     Kind = 8
-	Down     Kind = 9
-	Up       Kind = 10
-	Drain    Kind = 11
-	Undrain  Kind = 12
-	Retire   Kind = 13
-	Join     Kind = 14
-	Upgrade  Kind = 15
-	Upgraded Kind = 16
-	Tick     Kind = 17
-	Place6   Kind = 18
+	Place    Kind = C.LRC_PLACE
+	Drop     Kind = C.LRC_DROP
+	Lease    Kind = C.LRC_LEASE
+	Next     Kind = C.LRC_NEXT
+	Done     Kind = C.LRC_REPORT
+	Abandon  Kind = C.LRC_ABANDON
+	Revoke   Kind = C.LRC_REVOKE
+	Fail     Kind = C.LRC_FAIL
+	Down     Kind = C.LRC_DOWN
+	Up       Kind = C.LRC_UP
+	Drain    Kind = C.LRC_DRAIN
+	Undrain  Kind = C.LRC_UNDRAIN
+	Retire   Kind = C.LRC_RETIRE
+	Join     Kind = C.LRC_JOIN
+	Upgrade  Kind = C.LRC_UPGRADE
+	Upgraded Kind = C.LRC_UPGRADED
+	Tick     Kind = C.LRC_TICK
+	Place6   Kind = C.LRC_PLACE6
 )
 
 // A Command has the layout of lrc_command. The fields that its kind does not use are 0.

@@ -2,8 +2,9 @@
 //
 // Everything that a command does is decided by the library, and its texts are the library's: lines of commands, replies, tables,
 // words. This package checks layouts and carries numbers and texts over. It writes what the library prints of a whole book alone: the
-// row of one stripe. It takes the standard library alone. With the build tag lrc_embed_installed pkg-config finds the library; without
-// it CGO_CFLAGS names the folder of lrc_embed.h and CGO_LDFLAGS the library, which service/build sets both.
+// row of one stripe. It takes the standard library alone, and is a module of its own. With the build tag lrc_embed_installed
+// pkg-config finds the library; without it CGO_CFLAGS names the folder of lrc_embed.h and CGO_LDFLAGS the library, which service/build
+// sets both.
 //
 // docs/EMBEDDING.md says how a store keeps its lock and its log around a book: the Entry of each Call goes to the log before the
 // store acts on its reply, and Replay makes them again after a restart. A Book has Looks; a Published has them too, and Viewers, which

@@ -17,23 +17,23 @@ type ReplyKind uint8
 
 // The kinds of replies.
 const (
-	Placed  ReplyKind = 1
-	Dropped ReplyKind = 2
-	Granted ReplyKind = 3
-	Idle    ReplyKind = 4
-	Ended   ReplyKind = 5
-	Changed ReplyKind = 6
-	Refused ReplyKind = 7
-	Ticked  ReplyKind = 8
-	Placed6 ReplyKind = 9
+	Placed  ReplyKind = C.LRC_PLACED
+	Dropped ReplyKind = C.LRC_DROPPED
+	Granted ReplyKind = C.LRC_GRANTED
+	Idle    ReplyKind = C.LRC_IDLE
+	Ended   ReplyKind = C.LRC_ENDED
+	Changed ReplyKind = C.LRC_CHANGED
+	Refused ReplyKind = C.LRC_REFUSED
+	Ticked  ReplyKind = C.LRC_TICKED
+	Placed6 ReplyKind = C.LRC_PLACED6
 )
 
 // The refusals that the service itself has to tell apart. docs/RULES.md has all of them.
 const (
-	NoLawfulNode  = 103
-	AlreadyLeased = 110
-	Unrecoverable = 112
-	NotHolder     = 114
+	NoLawfulNode  = C.LRC_NO_LAWFUL_NODE
+	AlreadyLeased = C.LRC_ALREADY_LEASED
+	Unrecoverable = C.LRC_UNRECOVERABLE
+	NotHolder     = C.LRC_NOT_HOLDER
 )
 
 // A Repair has the numbers of lrc_repair.
@@ -41,10 +41,10 @@ type Repair uint8
 
 // What a fragment is rebuilt from.
 const (
-	Local  Repair = 1 // the six others of its group, in a wide stripe
-	Global Repair = 2
-	Move   Repair = 3
-	Local3 Repair = 4 // the three others of its group, in a narrow stripe
+	Local  Repair = C.LRC_LOCAL // the six others of its group, in a wide stripe
+	Global Repair = C.LRC_GLOBAL
+	Move   Repair = C.LRC_MOVE
+	Local3 Repair = C.LRC_LOCAL3 // the three others of its group, in a narrow stripe
 )
 
 // String is the word for the repair; a local one has the same word in both codes.

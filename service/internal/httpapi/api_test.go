@@ -69,6 +69,9 @@ func newService(t testing.TB, change func(*setup)) *service {
 	t.Cleanup(func() { stop(); a.Close(); server.CloseClientConnections(); server.Close() })
 	s := &service{t, e, books, a, server.URL}
 	s.expect("PUT", "/books/p0", nodes(4), 200, `{"n":0,"opens":1024}`)
+	if e.Silent == nil {
+		wait(t, "it keeps up with its leader", with.Replica.KeepsUp)
+	}
 	return s
 }
 

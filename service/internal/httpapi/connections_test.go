@@ -31,7 +31,7 @@ func limited(t *testing.T, most int, change func(*setup)) *service {
 }
 
 // wait waits until something holds.
-func wait(t *testing.T, what string, holds func() bool) {
+func wait(t testing.TB, what string, holds func() bool) {
 	t.Helper()
 	for end := time.Now().Add(20 * time.Second); !holds(); time.Sleep(5 * time.Millisecond) {
 		if time.Now().After(end) {

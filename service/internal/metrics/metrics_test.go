@@ -10,9 +10,11 @@ import (
 	"testing"
 	"time"
 
+	"github.com/prometheus/client_golang/prometheus"
 	"github.com/prometheus/client_golang/prometheus/testutil"
 	dto "github.com/prometheus/client_model/go"
 
+	"lrcman/service/book"
 	"lrcman/service/internal/engine"
 	"lrcman/service/internal/httpapi"
 	"lrcman/service/internal/state"
@@ -129,70 +131,92 @@ func TestBooksAreCountedAsTheModelCountsThem(t *testing.T) {
 	watcher.Step()
 	got := values(t, m)
 	for name, b := range all {
-		want := map[string]int{}
-		for label, row := range map[string]string{`level="whole",margin="3"`: "whole", `level="risk",margin="2"`: "at_risk_margin_2",
-			`level="risk",margin="1"`: "at_risk_margin_1", `level="risk",margin="0"`: "at_risk_margin_0",
-			`level="unavailable",margin="-"`: "unavailable", `level="lost",margin="-"`: "lost"} {
-			want[fmt.Sprintf(`lrcmand_stripes{book=%q,%s}`, name, label)] = b.Value(row)
-		}
-		for _, standing := range []string{"leased", "open", "no_node", "unrecoverable"} {
-			want[fmt.Sprintf(`lrcmand_work_fragments{book=%q,standing=%q}`, name, standing)] = b.Standing(standing)
-		}
-		for _, mode := range []string{"active", "draining", "gone"} {
-			want[fmt.Sprintf(`lrcmand_nodes{book=%q,mode=%q}`, name, mode)] = b.Value("nodes_" + mode)
-		}
-		for metric, row := range map[string]string{"nodes_down": "nodes_down", "nodes_online": "nodes_online", "ticks_total": "clock",
-			"entries_total": "entries", "missing_fragments": "missing_fragments", "homeless_fragments": "homeless_fragments"} {
-			want[fmt.Sprintf(`lrcmand_%s{book=%q}`, metric, name)] = b.Value(row)
-		}
-		for cause, count := range b.Counts {
-			command, reply, _ := strings.Cut(cause, " ")
-			want[fmt.Sprintf(`lrcmand_commands_total{book=%q,command=%q,reply=%q}`, name, command, reply)] = int(count)
-		}
+		want := wantOf(name, b)
 		for sample, value := range want {
 			if got[sample] != float64(value) {
 				t.Errorf("%s is %v, and the model has %d", sample, got[sample], value)
 			}
 		}
-		sumsOf(t, got, name, b)
 	}
 }
 
-// sumsOf compares sums over labels with the model.
-func sumsOf(t *testing.T, got map[string]float64, name string, b *recorded.Book) {
-	sum := func(metric string) (total int) {
-		for sample, value := range got {
-			if strings.HasPrefix(sample, "lrcmand_"+metric+"{") && strings.Contains(sample, fmt.Sprintf("book=%q", name)) {
-				total += int(value)
-			}
+// wantOf has what the model says of a book, by sample.
+func wantOf(name string, b *recorded.Book) map[string]int {
+	want := map[string]int{}
+	for label, row := range map[string]string{`level="whole",margin="3"`: "whole", `level="risk",margin="2"`: "at_risk_margin_2",
+		`level="risk",margin="1"`: "at_risk_margin_1", `level="risk",margin="0"`: "at_risk_margin_0",
+		`level="unavailable",margin="-"`: "unavailable", `level="lost",margin="-"`: "lost"} {
+		want[fmt.Sprintf(`lrcmand_stripes{book=%q,%s}`, name, label)] = b.Value(row)
+	}
+	for _, standing := range []string{"leased", "open", "no_node", "unrecoverable"} {
+		want[fmt.Sprintf(`lrcmand_work_fragments{book=%q,standing=%q}`, name, standing)] = b.Standing(standing)
+	}
+	for _, mode := range []string{"active", "draining", "gone"} {
+		want[fmt.Sprintf(`lrcmand_nodes{book=%q,mode=%q}`, name, mode)] = b.Value("nodes_" + mode)
+	}
+	for metric, row := range map[string]string{"nodes_down": "nodes_down", "nodes_online": "nodes_online", "ticks_total": "clock",
+		"entries_total": "entries", "missing_fragments": "missing_fragments", "homeless_fragments": "homeless_fragments"} {
+		want[fmt.Sprintf(`lrcmand_%s{book=%q}`, metric, name)] = b.Value(row)
+	}
+	for cause, count := range b.Counts {
+		command, reply, _ := strings.Cut(cause, " ")
+		want[fmt.Sprintf(`lrcmand_commands_total{book=%q,command=%q,reply=%q}`, name, command, reply)] = int(count)
+	}
+	countDomains(want, name, b)
+	countLeases(want, name, b)
+	countRefusals(want, name, b)
+	return want
+}
+
+// countDomains has what the model says of each domain, and whether one is upgrading.
+func countDomains(want map[string]int, name string, b *recorded.Book) {
+	for _, node := range b.Nodes {
+		for kind, domain := range map[string]uint8{"fault": node.Fault, "upgrade": node.Upgrade} {
+			labels := fmt.Sprintf(`{book=%q,domain="%d",kind=%q}`, name, domain, kind)
+			want["lrcmand_domain_held_seats"+labels] += int(node.Load)
+			want["lrcmand_domain_slots"+labels] += int(node.Slots)
+		}
+	}
+	want[fmt.Sprintf(`lrcmand_upgrading{book=%q}`, name)] = 0
+	if b.Status["upgrading"] != "none" {
+		want[fmt.Sprintf(`lrcmand_upgrading{book=%q}`, name)] = 1
+	}
+}
+
+// countLeases has the leases of the model by their ages.
+func countLeases(want map[string]int, name string, b *recorded.Book) {
+	for age := uint32(0); age < book.LeaseTicks; age++ {
+		want[fmt.Sprintf(`lrcmand_leases{age_ticks="%d",book=%q}`, age, name)] = 0
+	}
+	for _, lease := range b.Leases {
+		want[fmt.Sprintf(`lrcmand_leases{age_ticks="%d",book=%q}`, book.LeaseTicks-(lease.Expiry-uint32(b.Value("clock"))), name)]++
+	}
+}
+
+// countRefusals has the refusals of the model by their numbers.
+func countRefusals(want map[string]int, name string, b *recorded.Book) {
+	for _, line := range b.Lines {
+		if words := strings.Fields(line.Reply); words[0] == "refused" {
+			want[fmt.Sprintf(`lrcmand_refusals_total{book=%q,name="refusal %s",refusal=%q}`, name, words[1], words[1])]++
+		}
+	}
+}
+
+func TestTheAgeOfTheOldestLeaseIsTold(t *testing.T) {
+	all, now := make(chan prometheus.Metric, 8), time.Now()
+	leases(teller{all, []string{"p0"}}, []survey.Lease{{Since: now.Add(-time.Minute)}, {Since: now.Add(-time.Hour)}, {Since: now}})
+	close(all)
+	for metric := range all {
+		if metric.Desc() != oldestDesc {
+			continue
+		}
+		told := &dto.Metric{}
+		if err := metric.Write(told); err != nil || math.Abs(told.Gauge.GetValue()-3600) > 60 {
+			t.Errorf("the oldest lease is %v seconds old: %v", told.Gauge.GetValue(), err)
 		}
 		return
 	}
-	for _, kind := range []string{"fault", "upgrade"} {
-		for metric, row := range map[string]string{"domain_held_seats": "held_seats", "domain_slots": "slots"} {
-			found := 0
-			for sample, value := range got {
-				if strings.HasPrefix(sample, fmt.Sprintf("lrcmand_%s{book=%q,", metric, name)) && strings.Contains(sample, fmt.Sprintf("kind=%q", kind)) {
-					found += int(value)
-				}
-			}
-			if found != b.Value(row) {
-				t.Errorf("%s: %s of all %s domains is %d, and the model has %d", name, metric, kind, found, b.Value(row))
-			}
-		}
-	}
-	if leases := sum("leases"); leases != b.Value("leases") {
-		t.Errorf("%s: %d leases, and the model has %d", name, leases, b.Value("leases"))
-	}
-	refused := 0
-	for cause, count := range b.Counts {
-		if strings.HasSuffix(cause, " refused") {
-			refused += int(count)
-		}
-	}
-	if refusals := sum("refusals_total"); refusals != refused {
-		t.Errorf("%s: %d refusals, and the model has %d", name, refusals, refused)
-	}
+	t.Error("the age of the oldest lease is not told")
 }
 
 func TestTheGroupIsTold(t *testing.T) {

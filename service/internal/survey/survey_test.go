@@ -4,6 +4,8 @@ import (
 	"context"
 	"fmt"
 	"reflect"
+	"strconv"
+	"strings"
 	"testing"
 	"time"
 
@@ -60,8 +62,14 @@ func TestAReportCountsWhatTheModelCounts(t *testing.T) {
 				t.Errorf("%s: %d fragments are %s, and the model has %d", name, count, standing, want)
 			}
 		}
-		if kinds := r.Work.Local + r.Work.Global + r.Work.Move; kinds != len(b.Tasks) || r.Work.All() != len(b.Tasks) {
-			t.Errorf("%s: work %+v, and the model has %d rows", name, r.Work, len(b.Tasks))
+		kinds := map[string]int{"local": -r.Work.Local, "global": -r.Work.Global, "move": -r.Work.Move}
+		for _, task := range b.Tasks {
+			kinds[task.Kind]++
+		}
+		for kind, lacking := range kinds {
+			if lacking != 0 || r.Work.All() != len(b.Tasks) {
+				t.Errorf("%s: work %+v, and the model has %d rows, and %d more that are %s", name, r.Work, len(b.Tasks), lacking, kind)
+			}
 		}
 		upgrading := "none"
 		if r.Upgrading != nil {
@@ -71,6 +79,32 @@ func TestAReportCountsWhatTheModelCounts(t *testing.T) {
 			t.Errorf("%s: upgrading %s, and the model has %s", name, upgrading, b.Status["upgrading"])
 		}
 	}
+}
+
+func TestANodeHasItsTargetsAndWhatLeavesIt(t *testing.T) {
+	for _, name := range states {
+		b := load(t, name)
+		targets, leaving := map[uint16]uint32{}, map[uint16]uint32{}
+		for _, lease := range b.Leases {
+			targets[nodeOf(lease.Target)]++
+			for _, stripe := range b.Stripes {
+				if home := stripe.Homes[lease.Fragment]; stripe.Stripe == lease.Stripe && home != "-" {
+					leaving[nodeOf(home)]++
+				}
+			}
+		}
+		for _, node := range report(t, newClock().watch(recorded.Books{name: b}), name).Nodes {
+			if node.Targets != targets[node.Node] || node.Leaving != leaving[node.Node] {
+				t.Errorf("%s: %+v, and the model has %d targets, of which %d leave", name, node, targets[node.Node], leaving[node.Node])
+			}
+		}
+	}
+}
+
+func nodeOf(seat string) uint16 {
+	node, _, _ := strings.Cut(seat, ":")
+	number, _ := strconv.Atoi(node)
+	return uint16(number)
 }
 
 func TestHealthIsThatOfTheModel(t *testing.T) {

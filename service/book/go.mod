@@ -1,0 +1,3 @@
+module lrcman/service/book
+
+go 1.19

@@ -1,0 +1,3 @@
+module lrcman/service/client
+
+go 1.19
