@@ -4,9 +4,11 @@ Usage: tools/install [OPTION].. PREFIX      for example: tools/install /usr/loca
 
   lrcman        the program, its manual page, and its completion for bash
   library       liblrc_embed as a shared library
-  development   its header, the static library, and what pkg-config and CMake ask for
+  development   its header, the static library and its checked build, what pkg-config and CMake ask for, and the sources of the crates
+                for Rust and of the package for Go, which are built with programs
   python        lrc_embed.py
   service       lrcmand, its manual page, and a unit and the user for systemd
+  tools         lrcman-balance, lrcman-picture and lrcman-takeover, which are those of this folder, and their manual pages
 
 What is not built is left out, and a line on standard error says what builds it.
 
@@ -23,13 +25,25 @@ written, and 2 if the command line is wrong."""
 import argparse
 import ctypes
 import dataclasses
+import glob
 import os
 import re
 import sys
 
+from tools import manual
+
 TOP = os.path.dirname(os.path.dirname(os.path.abspath(__file__)))
-PARTS = ("lrcman", "library", "development", "python", "service")
+PARTS = ("lrcman", "library", "development", "python", "service", "tools")
 BUILDS = {"lrcman": "`rt run -- matrix` in crates/lrcman", "service": "service/build"}
+
+
+# Programs in Python, and what they import, which stands beside them.
+TOOLS, MODULES = ("balance", "picture", "takeover"), ("books.py", "tables.py")
+
+
+# What is built with the programs that take it, by its folder below share/lrc_embed.
+SOURCES = {"rust/lrc-embed-sys": "examples/embed/rust/lrc-embed-sys", "rust/lrc-embed": "examples/embed/rust/lrc-embed",
+           "go/book": "service/book"}
 
 
 class Refused(Exception):
@@ -46,9 +60,9 @@ class Built:
 
     def needs(self, part):
         """The files that a part takes."""
-        shared, static = f"{self.library}/liblrc_embed.so", f"{self.library}/liblrc_embed.a"
-        return {"lrcman": [self.program], "library": [shared], "development": [shared, static], "python": [],
-                "service": [self.service]}[part]
+        shared, *static = (f"{self.library}/liblrc_embed{it}" for it in (".so", ".a", "_checked.a"))
+        taken = {"lrcman": [self.program], "library": [shared], "development": [shared, *static], "service": [self.service]}
+        return taken.get(part, [])
 
     def lacks(self, part):
         """Why a part can't be installed, or nothing."""
@@ -95,6 +109,32 @@ def filled(name, values):
     return re.sub(r"@(\w+)@", lambda word: str(values[word[1]]), read(f"{TOP}/{name}").decode()).encode()
 
 
+def renamed(text):
+    """A text of tools with the names that they have where they are installed."""
+    return re.sub(rf"\btools/({'|'.join(TOOLS)})\b", r"lrcman-\1", text)
+
+
+def tool_files():
+    """What the part of tools installs, as files_of has it."""
+    for tool in TOOLS:
+        path = f"{TOP}/tools/{tool}"
+        yield f"bin/lrcman-{tool}", f"../share/lrcman/{tool}", None
+        yield f"share/lrcman/{tool}", renamed(read(path).decode()).encode(), 0o755
+        yield f"share/man/man1/lrcman-{tool}.1", manual.page(f"lrcman-{tool}", renamed(manual.help_of(path))).encode(), 0o644
+    for module in MODULES:
+        yield f"share/lrcman/{module}", read(f"{TOP}/tools/{module}"), 0o644
+
+
+def source_files():
+    """The sources of the development part, but for their tests, as files_of has them."""
+    for to, folder in SOURCES.items():
+        for path in sorted(glob.glob(f"{TOP}/{folder}/**", recursive=True)):
+            name = os.path.relpath(path, f"{TOP}/{folder}")
+            is_test = name.startswith("tests/") or name.endswith("_test.go")
+            if name.endswith((".rs", ".toml", ".go", ".mod")) and not is_test:
+                yield f"share/lrc_embed/{to}/{name}", read(path), 0o644
+
+
 def files_of(part, built, place):
     """What a part installs: names below the prefix, and the bytes and the mode of each; a link is its target."""
     version, lib = interface(), place.libdir
@@ -109,11 +149,13 @@ def files_of(part, built, place):
         cmake = {"up": os.path.relpath(".", f"{lib}/cmake/lrc_embed"), "libdir": lib, "version": version}
         yield "include/lrc_embed.h", read(f"{TOP}/crates/lrc_embed/include/lrc_embed.h"), 0o644
         yield f"{lib}/liblrc_embed.so", f"liblrc_embed.so.{version}", None
-        yield f"{lib}/liblrc_embed.a", read(f"{built.library}/liblrc_embed.a"), 0o644
+        for name in ("liblrc_embed.a", "liblrc_embed_checked.a"):
+            yield f"{lib}/{name}", read(f"{built.library}/{name}"), 0o644
         yield f"{lib}/pkgconfig/lrc_embed.pc", filled("examples/embed/lrc_embed.pc.in", folders), 0o644
         for name in ("config", "config-version"):
             text = filled(f"examples/embed/lrc_embed-{name}.cmake.in", cmake)
             yield f"{lib}/cmake/lrc_embed/lrc_embed-{name}.cmake", text, 0o644
+        yield from source_files()
     elif part == "python":
         yield f"{place.python}/lrc_embed.py", read(f"{TOP}/examples/embed/lrc_embed.py"), 0o644
     elif part == "service":
@@ -122,6 +164,8 @@ def files_of(part, built, place):
         yield "share/man/man8/lrcmand.8", read(f"{TOP}/docs/lrcmand.8"), 0o644
         yield "lib/systemd/system/lrcmand.service", unit, 0o644
         yield "lib/sysusers.d/lrcmand.conf", read(f"{TOP}/service/lrcmand.sysusers"), 0o644
+    elif part == "tools":
+        yield from tool_files()
 
 
 def write(path, data, mode):
@@ -173,7 +217,7 @@ def chosen(named, built):
         raise Refused("; ".join(lacking.values()))
     for part, why in lacking.items():
         print(f"left out: {part}: {why}", file=sys.stderr)
-    if not named and not set(PARTS) - {"python"} - set(lacking):
+    if not named and not any(built.needs(part) for part in set(PARTS) - set(lacking)):
         raise Refused("nothing is built")
     return [part for part in named or PARTS if part not in lacking]
 

@@ -4,9 +4,10 @@ Usage: tools/package [OPTION].. FOLDER      writes PACKAGE_VERSION_ARCHITECTURE.
 
   lrcman              the program, its manual page, its completion for bash, and its pages
   liblrc-embedN       the shared library, where N is the version of its interface
-  liblrc-embed-dev    the header, the static library, what pkg-config and CMake ask for, and examples
+  liblrc-embed-dev    the header, the static library, what pkg-config and CMake ask for, sources for Rust and Go, and examples
   python3-lrc-embed   lrc_embed.py
   lrcmand             the service, its manual page, a unit for systemd with its own user, and its options in /etc/default
+  lrcman-tools        lrcman-balance, lrcman-picture and lrcman-takeover, with their manual pages
 
 A package whose files are not built is left out, and a line on standard error says what builds them. The same files and the same
 commit make the same packages, byte for byte. The version is that of the tag of the tree, as v1.2, and else 0 with the time of
@@ -38,13 +39,14 @@ DEBIAN = f"{TOP}/tools/debian"
 TRIPLET = "x86_64-linux-gnu"
 # What tools/install installs for each package, and which files beside go to its folder of documents.
 PARTS = {"lrcman": "lrcman", "liblrc-embed": "library", "liblrc-embed-dev": "development", "python3-lrc-embed": "python",
-         "lrcmand": "service"}
+         "lrcmand": "service", "lrcman-tools": "tools"}
 DOCUMENTS = {
     "lrcman": ["docs/OPERATING.md", "docs/RULES.md", "docs/FORMATS.md"],
     "liblrc-embed-dev": ["docs/EMBEDDING.md", "docs/CODING.md", "examples/embed/late_worker.c", "examples/embed/late_worker.cpp",
                          "examples/embed/late_worker.rs"],
     "python3-lrc-embed": ["examples/embed/late_worker.py"],
-    "lrcmand": ["docs/SERVICE.md", "service/openapi.json", "service/alerts.yml", "service/console.html"],
+    "lrcmand": ["docs/SERVICE.md", "service/openapi.json", "service/alerts.yml", "service/console.html",
+                "service/client/lrcmand_client.py"],
 }
 
 
@@ -132,6 +134,15 @@ def fill(tree, package, built, made):
             os.remove(f"{tree}/{name}")
 
 
+def name_python(tree):
+    """Has programs in Python run by that of the system, which the package depends on."""
+    anywhere, own = b"#!/usr/bin/env python3\n", b"#!/usr/bin/python3\n"
+    for name in files_in(tree):
+        path = f"{tree}/{name}"
+        if not os.path.islink(path) and (data := install.read(path)).startswith(anywhere):
+            put(tree, name, own + data.removeprefix(anywhere), 0o755)
+
+
 def strip(tree):
     """Removes what only debuggers read; returns the files that the system's loader loads."""
     loaded = []
@@ -197,6 +208,7 @@ def make(package, built, made, folder):
     with tempfile.TemporaryDirectory() as room:
         tree = f"{room}/tree"
         fill(tree, package, built, made)
+        name_python(tree)
         loaded = strip(tree)
         describe(package, tree, loaded, made, room)
         for at, folders, _ in os.walk(tree):

@@ -84,6 +84,18 @@ def why_no_rust():
     return ""
 
 
+def test_installed_rust(count, room, prefix, env):
+    """A program takes the crates from where they are installed."""
+    os.makedirs(f"{room}/crate/src")
+    shutil.copy(f"{prefix}/share/lrc_embed/rust/lrc-embed/examples/late_worker.rs", f"{room}/crate/src/main.rs")
+    with open(f"{room}/crate/Cargo.toml", "w", encoding="utf-8") as text:
+        text.write('[package]\nname = "worker"\nversion = "0.1.0"\nedition = "2021"\n\n[dependencies]\n'
+                   f'lrc-embed = {{ path = "{prefix}/share/lrc_embed/rust/lrc-embed" }}\n')
+    how = {"cwd": f"{room}/crate", "env": {**env, "CARGO_TARGET_DIR": f"{room}/rust"}}
+    if count.run("a program over the installed crates", "cargo", "build", "--offline", **how) is not None:
+        check_worker(count, "the program over the installed crates", f"{room}/rust/debug/worker", env=env)
+
+
 def test_rust(count, room, prefix):
     """The declarations are those of the header; the crates are built with the shared and with the static library, and tested."""
     ran = ended(f"{RUST}/declare", "--check")
@@ -110,28 +122,47 @@ def test_rust(count, room, prefix):
         count.run("clippy", "cargo", "clippy", "--locked", "--offline", "--all-targets", "--", "-D", "warnings", **how)
     else:
         left_out("what clippy finds in the crates", "it is not there")
+    test_installed_rust(count, room, prefix, how["env"])
     env = {**how["env"], "PKG_CONFIG_PATH": room, "CARGO_TARGET_DIR": f"{room}/none"}
     missing = ended("cargo", "check", "--offline", cwd=RUST, env=env)
     count.check(f"no library: {missing.stderr[-500:]}", missing.returncode and "liblrc_embed is not found" in missing.stderr)
 
 
+def check_go(count, name, folder, env):
+    """A program in Go is built in a folder, and prints what the example does."""
+    build = ["go", "build", "-tags", "lrc_embed_installed", "-o", f"{folder}/worker", "."]
+    if count.run(name, *build, env=env, cwd=folder) is not None:
+        bundle = read(f"{EXAMPLES}/late_worker.bundle").decode().partition("%%\n")[2]
+        lines = [line for line in bundle.splitlines() if line and line[0] != "#"]
+        check_worker(count, f"the program: {name}", f"{folder}/worker", *lines, env=env)
+
+
+def write_go(folder, *imported):
+    """A program in a folder of its own, which takes these packages too."""
+    os.makedirs(folder)
+    for name, text in (("main", GO), *((it, f'package main\n\nimport _ "lrcman/service/{it}"\n') for it in imported)):
+        with open(f"{folder}/{name}.go", "w", encoding="utf-8") as file:
+            file.write(text)
+
+
 def test_go(count, room, prefix):
-    """A program beside the service takes the package for Go, which pkg-config finds the library for."""
+    """Programs beside the service, and programs that are modules, take the package for Go, which pkg-config finds the library for.
+    Those that are modules take it from where it is installed, and the client too; nothing is fetched."""
     for tool in ("go", "pkg-config"):
         if not shutil.which(tool):
             return left_out("the package for Go", f"there is no {tool}")
-    source = f"{room}/go/src/worker"
-    os.makedirs(source)
     shutil.copytree(f"{TOP}/service/book", f"{room}/go/src/lrcman/service/book")
-    with open(f"{source}/main.go", "w", encoding="utf-8") as text:
-        text.write(GO)
+    write_go(f"{room}/go/src/worker")
     env = installed_env(prefix, GOPATH=f"{room}/go", GO111MODULE="off", CGO_ENABLED="1")
-    build = ["go", "build", "-tags", "lrc_embed_installed", "-o", f"{room}/go/worker", "worker"]
-    if count.run("a program in Go", *build, env=env, cwd=room) is None:
-        return None
-    bundle = read(f"{EXAMPLES}/late_worker.bundle").decode().partition("%%\n")[2]
-    lines = [line for line in bundle.splitlines() if line and line[0] != "#"]
-    return check_worker(count, "the program in Go", f"{room}/go/worker", *lines, env=env)
+    check_go(count, "a program in Go, where Go looks for packages", f"{room}/go/src/worker", env)
+    module = f"{room}/module"
+    write_go(module, "client")
+    env = installed_env(prefix, GOPATH=f"{room}/none", GO111MODULE="on", GOFLAGS="", GOPROXY="off", CGO_ENABLED="1")
+    count.run("go mod init", "go", "mod", "init", "worker", env=env, cwd=module)
+    for name, path in (("book", f"{prefix}/share/lrc_embed/go/book"), ("client", f"{TOP}/service/client")):
+        taken = [f"-require=lrcman/service/{name}@v0.0.0", f"-replace=lrcman/service/{name}={path}"]
+        count.run(f"go mod edit: {name}", "go", "mod", "edit", *taken, env=env, cwd=module)
+    return check_go(count, "a program in Go that is a module", module, env)
 
 
 def test(count, room, prefix):

@@ -90,6 +90,11 @@ def test_use(count, root):
         check(count, "lrcman check", root("lrcman", "check", input=bundle), "ok nodes 20 scripts 1 commands 1\n")
         with open(f"{EXAMPLES}/place_one_stripe.out", encoding="utf-8") as text:
             check(count, "lrcman run", root("lrcman", "run", input=bundle), text.read())
+        root.shell("cd /srv && lrcman show nodes > nodes.csv", input=bundle)
+    if root.has("srv/nodes.csv"):
+        drawn = root("lrcman-picture", "--load", "/srv/nodes.csv")
+        check(count, "lrcman-picture", drawn)
+        count.check(f"the picture: {drawn.stdout[-200:]}", drawn.stdout.endswith("</svg>\n"))
     examples = "/usr/share/doc/liblrc-embed-dev/examples"
     built = root.shell(f"cd /srv && gcc -o worker {examples}/late_worker.c $(pkg-config --cflags --libs lrc_embed)")
     if check(count, "gcc against the library", built):
@@ -99,7 +104,7 @@ def test_use(count, root):
     static = root.shell(f"cd /srv && gcc -o static {examples}/late_worker.c -l:liblrc_embed.a && ./static")
     check(count, "a program in C with the static library", static, worker_replies())
     check(count, "Python", root("python3", "/usr/share/doc/python3-lrc-embed/examples/late_worker.py"), worker_replies())
-    packages = LIBRARY, "liblrc-embed-dev", "python3-lrc-embed"
+    packages = LIBRARY, "liblrc-embed-dev", "python3-lrc-embed", "lrcman-tools"
     check(count, "dpkg finds each file as it was packed", root("dpkg", "--verify", *packages), "")
 
 
@@ -184,6 +189,9 @@ def test_start(count, root):
     count.check(f"a book is made: {made}", "error" not in made)
     placed = asked(root, "POST", "/books/p0/call", '{"command":"place 1"}')
     count.check(f"a stripe is placed: {placed}", placed.get("kind") == "placed" and placed.get("n") == 1)
+    spread = root("lrcman-balance", "--dry", "p0")
+    check(count, "lrcman-balance of a book of the service", spread)
+    count.check(f"what it prints: {spread.stdout}", re.search(r"^now,0,0,0\.0,20\.0,", spread.stdout, re.M))
 
 
 def test_restart(count, root):

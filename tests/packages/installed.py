@@ -11,17 +11,32 @@ from tests.packages.said import ended, left_out
 
 INSTALL, PREFIX = f"{TOP}/tools/install", "/usr/lrcman"
 VERSION, WORKER = lrc_embed.VERSION, f"{EXAMPLES}/embed/late_worker.c"
+TOOLS = "balance", "picture", "takeover"
+# The sources for Rust and Go, below share/lrc_embed.
+SOURCES = [
+    *(f"rust/lrc-embed-sys/{it}" for it in ("Cargo.toml", "build.rs", "src/lib.rs")),
+    *(f"rust/lrc-embed/{it}" for it in ("Cargo.toml", "examples/late_worker.rs")),
+    *(f"rust/lrc-embed/src/{it}.rs" for it in ("bytes", "command", "lib", "texts", "views", "words")),
+    *(f"go/book/{it}.go" for it in ("bytes", "calls", "command", "health", "installed", "json", "library", "line", "looks",
+                                    "published", "recipes", "reply", "tables", "words")),
+    "go/book/go.mod",
+]
 MODULE = f"lib/python{sys.version_info.major}.{sys.version_info.minor}/site-packages"
 # Each file below the prefix, and its permissions; a link has none.
 FILES = {
     "lrcman": {"bin/lrcman": 0o755, "share/man/man1/lrcman.1": 0o644, "share/bash-completion/completions/lrcman": 0o644},
     "library": {f"lib/liblrc_embed.so.{VERSION}": 0o644},
     "development": {
-        "include/lrc_embed.h": 0o644, "lib/liblrc_embed.so": None, "lib/liblrc_embed.a": 0o644, "lib/pkgconfig/lrc_embed.pc": 0o644,
-        "lib/cmake/lrc_embed/lrc_embed-config.cmake": 0o644, "lib/cmake/lrc_embed/lrc_embed-config-version.cmake": 0o644},
+        "include/lrc_embed.h": 0o644, "lib/liblrc_embed.so": None, "lib/liblrc_embed.a": 0o644, "lib/liblrc_embed_checked.a": 0o644,
+        "lib/pkgconfig/lrc_embed.pc": 0o644,
+        "lib/cmake/lrc_embed/lrc_embed-config.cmake": 0o644, "lib/cmake/lrc_embed/lrc_embed-config-version.cmake": 0o644,
+        **{f"share/lrc_embed/{it}": 0o644 for it in SOURCES}},
     "python": {f"{MODULE}/lrc_embed.py": 0o644},
     "service": {"bin/lrcmand": 0o755, "share/man/man8/lrcmand.8": 0o644, "lib/systemd/system/lrcmand.service": 0o644,
                 "lib/sysusers.d/lrcmand.conf": 0o644},
+    "tools": {**{f"bin/lrcman-{it}": None for it in TOOLS}, **{f"share/lrcman/{it}": 0o755 for it in TOOLS},
+              "share/lrcman/books.py": 0o644, "share/lrcman/tables.py": 0o644,
+              **{f"share/man/man1/lrcman-{it}.1": 0o644 for it in TOOLS}},
 }
 CMAKE = """cmake_minimum_required(VERSION 3.16)
 project(worker C)
@@ -121,7 +136,7 @@ def test_refusals(count, room, built):
     count.check("a refusal writes nothing", not os.path.exists(f"{room}/refused"))
     ran = ended(INSTALL, "--program", built.program, "--library", f"{room}/none", "--service", f"{room}/none", f"{room}/some")
     some = set(tree(f"{room}/some"))
-    count.check(f"what is built is installed: {ran.stderr}", ran.returncode == 0 and some == {*FILES["lrcman"], *FILES["python"]})
+    count.check(f"what is built is installed: {ran.stderr}", ran.returncode == 0 and some == {*FILES["lrcman"], *FILES["python"], *FILES["tools"]})
 
 
 def test_pkg_config(count, room, prefix):
@@ -137,6 +152,15 @@ def test_pkg_config(count, room, prefix):
         check_worker(count, "the program in C by pkg-config", f"{room}/by_pkg_config", **how)
         needed = ended("readelf", "-d", f"{room}/by_pkg_config").stdout
         count.check(f"it needs {needed}", f"[liblrc_embed.so.{VERSION}]" in needed)
+
+
+def test_checked(count, room, prefix):
+    """A program in C over the checked build, which is not the other one."""
+    library = f"{prefix}/lib/liblrc_embed_checked.a"
+    count.check("the checked build tells of a handle in use", b"is in use" in read(library))
+    words = [CC, "-std=c11", "-pthread", f"-I{prefix}/include", WORKER, library, "-o", f"{room}/over_checked"]
+    if count.run("a program in C over the checked build", *words) is not None:
+        check_worker(count, "the program in C over the checked build", f"{room}/over_checked")
 
 
 def test_cmake(count, room, prefix):
@@ -171,6 +195,7 @@ def test(count, room, built):
     prefix = test_files(count, room, built)
     test_refusals(count, room, built)
     test_pkg_config(count, room, prefix)
+    test_checked(count, room, prefix)
     test_cmake(count, room, prefix)
     test_python(count, prefix)
     for name in parts_of(built):

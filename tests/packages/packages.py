@@ -5,14 +5,14 @@ import shutil
 
 from tests.harness import TOP, read
 from tests.library.library import lrc_embed
-from tests.packages.installed import FILES, MODULE, of_built, parts_of
+from tests.packages.installed import FILES, MODULE, TOOLS, of_built, parts_of
 from tests.packages.said import ended, left_out
 
 PACKAGE, LIBRARY = f"{TOP}/tools/package", f"liblrc-embed{lrc_embed.VERSION}"
 TRIPLET = "x86_64-linux-gnu"
 NEEDED = ("dpkg-deb", "dpkg-shlibdeps", "strip")
 PARTS = {"lrcman": "lrcman", LIBRARY: "library", "liblrc-embed-dev": "development", "python3-lrc-embed": "python",
-         "lrcmand": "service"}
+         "lrcmand": "service", "lrcman-tools": "tools"}
 # What stands beside what tools/install installs.
 BESIDE = {
     "lrcman": ["usr/share/doc/lrcman/OPERATING.md", "usr/share/doc/lrcman/RULES.md", "usr/share/doc/lrcman/FORMATS.md"],
@@ -21,7 +21,9 @@ BESIDE = {
         "EMBEDDING.md", "CODING.md", "examples/late_worker.c", "examples/late_worker.cpp", "examples/late_worker.rs")],
     "python3-lrc-embed": ["usr/share/doc/python3-lrc-embed/examples/late_worker.py"],
     "lrcmand": ["etc/default/lrcmand", "usr/share/lintian/overrides/lrcmand",
-                *(f"usr/share/doc/lrcmand/{it}" for it in ("SERVICE.md", "openapi.json", "alerts.yml", "console.html"))],
+                *(f"usr/share/doc/lrcmand/{it}" for it in (
+                    "SERVICE.md", "openapi.json", "alerts.yml", "console.html", "lrcmand_client.py"))],
+    "lrcman-tools": [],
 }
 
 
@@ -52,10 +54,19 @@ def check_package(count, package, file):
     count.check(f"others write to files of {package}", all(it[0][0] == "l" or it[0][5] == it[0][8] == "-" for it in found))
     fields = dict(re.findall(r"^([\w-]+): (.*)$", ended("dpkg-deb", "-f", file).stdout, re.M))
     wanted = {"Package": package, "Version": "1.5", "Source": "lrcman", "Maintainer": "A Name <name@example.org>",
-              "Architecture": "all" if package == "python3-lrc-embed" else "amd64"}
+              "Architecture": "all" if package in ("python3-lrc-embed", "lrcman-tools") else "amd64"}
     count.check(f"the fields of {package}: {fields}", wanted.items() <= fields.items())
-    depends = {"liblrc-embed-dev": f"{LIBRARY} (= 1.5)", "python3-lrc-embed": f"{LIBRARY} (= 1.5)", "lrcmand": "systemd"}
+    depends = {"liblrc-embed-dev": f"{LIBRARY} (= 1.5)", "python3-lrc-embed": f"{LIBRARY} (= 1.5)", "lrcmand": "systemd",
+               "lrcman-tools": "python3 (>= 3.11)"}
     count.check(f"{package} depends on {fields['Depends']}", fields["Depends"].startswith(depends.get(package, "libc6 (>= ")))
+
+
+def test_python(count, file):
+    """The system's Python runs the tools, and not another one that comes first on the path."""
+    for tool in TOOLS:
+        words = f'dpkg-deb --fsys-tarfile "$0" | tar -xO ./usr/share/lrcman/{tool} | head -1'
+        first = ended("sh", "-c", words, file).stdout
+        count.check(f"what runs lrcman-{tool}: {first}", first == "#!/usr/bin/python3\n")
 
 
 def test_refusals(count, room, built):
@@ -85,9 +96,10 @@ def test(count, room, built):
     count.check(f"the packages: {sorted(made)}", set(made) == wanted)
     for package, file in made.items():
         check_package(count, package, file)
-    only = [f"--only={it}" for it in ("liblrc-embed", "liblrc-embed-dev", "python3-lrc-embed")]
+    test_python(count, made["lrcman-tools"])
+    only = [f"--only={it}" for it in ("liblrc-embed", "liblrc-embed-dev", "python3-lrc-embed", "lrcman-tools")]
     again = made_by(count, "the same again", built, f"{room}/again", *only, env=env)
-    count.check(f"made again: {sorted(again)}", len(again) == 3)
+    count.check(f"made again: {sorted(again)}", len(again) == 4)
     for package, file in again.items():
         count.check(f"{package} has the same bytes again", read(file) == read(made[package]))
     ran = ended(PACKAGE, *of_built(built), "--only", "python3-lrc-embed", f"{room}/own")

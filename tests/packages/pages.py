@@ -4,6 +4,7 @@ import shutil
 
 from tests.harness import TOP, read
 from tests.library.library import lrc_embed
+from tests.packages.installed import FILES
 from tests.packages.packages import PARTS
 from tests.packages.said import ended, left_out
 
@@ -100,8 +101,16 @@ def test_page(count):
     count.check(f"the versions of PACKAGES.md: {versions}", len(versions) == 3 and {"".join(it) for it in versions} == {own})
 
 
+def test_folders(count):
+    """The folders below a prefix that the page names have files."""
+    folders = re.findall(r"/usr/local/(share/[\w./-]+)", page("PACKAGES.md"))
+    lacking = [it for it in folders if not any(name.startswith(f"{it}/") for name in FILES["development"])]
+    count.check(f"folders of PACKAGES.md: {folders}, of which nothing is in {lacking}", len(folders) > 1 and not lacking)
+
+
 def test(count, service):
     test_page(count)
+    test_folders(count)
     test_completion(count)
     for name in ("lrcman.1", "lrcmand.8"):
         test_manual(count, name)

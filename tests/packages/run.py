@@ -7,6 +7,7 @@ default service/build builds it
 - tools/install puts each file below a prefix, and below a folder for later. Against what it installs, programs in C are built
   by pkg-config and by CMake, and run; Python finds the module. It says what is not built. The crates for Rust have the
   declarations of the header; they and the package for Go are built against what is installed, and tried.
+- The tools in Python print there what those of the tree print, and their manual pages have what they say of themselves.
 - The manual pages and the completion have the words, options and defaults that the programs have.
 - tools/package makes the packages, the same bytes each time; lintian finds no error. In a clean root of Debian each is installed
   and used: the program, a program in C, Python's module, and the service by the command of its unit. They are removed again.
@@ -19,7 +20,7 @@ import tempfile
 
 from tests import harness
 from tests.harness import TOP
-from tests.packages import bindings, clean, installed, packages, pages, symbols, unit
+from tests.packages import bindings, clean, installed, packages, pages, symbols, tools, unit
 from tests.packages.said import ended, left_out
 from tools.install import Built
 
@@ -43,7 +44,9 @@ def main(words):
         service = rest[0] if rest else built_service(count, folder, room)
         built = Built(program, folder, service or f"{room}/none")
         symbols.test(count, folder)
-        bindings.test(count, room, installed.test(count, room, built))
+        prefix = installed.test(count, room, built)
+        bindings.test(count, room, prefix)
+        tools.test(count, room, prefix, program)
         pages.test(count, service)
         unit.test(count, room, service)
         made = packages.test(count, room, built)

@@ -20,7 +20,9 @@ def test(count, folder):
     if not shutil.which("nm"):
         return left_out("the names that the libraries show", "there is no nm")
     shared, static = f"{folder}/liblrc_embed.so", f"{folder}/liblrc_embed.a"
-    for name, found in {"shared": shown("-D", "--defined-only", shared), "static": shown("-g", "--defined-only", static)}.items():
+    checked = shown("-g", "--defined-only", f"{folder}/liblrc_embed_checked.a")
+    for name, found in {"shared": shown("-D", "--defined-only", shared), "static": shown("-g", "--defined-only", static),
+                        "checked": checked}.items():
         count.check(f"names of the {name} library alone: {sorted(found - declared())}", not found - declared())
         count.check(f"names of the header that the {name} library lacks: {sorted(declared() - found)}", declared() <= found)
     count.check("the header declares functions", len(declared()) > 30)
