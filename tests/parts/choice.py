@@ -23,7 +23,7 @@ ROWS = [
     ("docs/RULES.md", "compare", ""),
     ("docs/OPERATING.md", "compare recipes takeover balance service", ""),
     ("docs/SERVICE.md", "service", ""),
-    ("docs/FORMATS.md", "compare show recipes", ""),
+    ("docs/FORMATS.md", "compare show recipes service", ""),
     ("docs/SPEED.md", "", ""),
     ("docs/SPEED.md docs/EMBEDDING.md", "embed stores", ""),
     # Tests, and what they import.
@@ -35,8 +35,8 @@ ROWS = [
     ("tests/library/restarts.py", "beside", ""),
     ("tests/stores/store_sqlite.py", "stores", ""),
     ("tests/proofs/kit.py", "edits", ""),
-    ("tools/tables.py", "pictures recipes takeover balance cluster service", ""),
-    ("tools/balance", "recipes balance cluster service", ""),
+    ("tools/tables.py", "pictures recipes takeover balance cluster service packages", ""),
+    ("tools/balance", "recipes balance cluster service packages", ""),
     ("bench/budget", "budget", ""),
     ("bench/kinds.py", "bench budget", ""),
     ("bench/show.py", "tables", ""),
@@ -50,6 +50,7 @@ ROWS = [
     # The service.
     ("service/internal/replica/gather.go", "service", ""),
     ("service/client/client.go", "service cluster", ""),
+    ("service/book/bytes.go", "embed service packages", ""),
     # Crates: what only the program stands on, what both stand on, what neither does, and the tests of crates.
     ("crates/lrc_outputs/src/play.rt", f"edits believe tried {QUICK}", f"proofs {FULL}"),
     ("crates/lrc_show/src/status.rt", f"edits believe tried {QUICK}", f"proofs {FULL} {LIBRARY}"),

@@ -4,7 +4,8 @@ Usage: tests/program/recipes [PROGRAM], by default the program that `rt ci` or `
 
 - The recipe that makes a file shorter is run three days in a row. After each day the topology is the one of the first day,
   each table of `show` is that of the whole history, and `resume` of the day's file prints the replies and tables that `run`
-  of the whole history prints for the day's commands. A file that is refused is left as it was.
+  of the whole history prints for the day's commands. A file that is refused is left as it was. The old files stay, and `counts`
+  tells the replies of all. What `moved` writes into the homes of a store is taken over; `forget` leaves out the nodes that are gone.
 - The functions of "A month" are each run on three days in a row, on a store on which things go wrong, of which no two mornings are
   the same: they print what the model of tests/model has, and leave the store as the model is after the same commands. Rounds of
   `even` end when no lawful move helps, by the model. Each day's backup has the store as it was then.
@@ -23,6 +24,7 @@ import statistics
 import subprocess
 import sys
 import tempfile
+from collections import Counter
 
 from tests import harness
 from tests.harness import TOP, example, read
@@ -32,8 +34,8 @@ from tests.model.shown import VIEWS
 from tests.model.store import Store
 from tests.program.balance import distances, helping_move, spread
 
-RENEWAL = "lrcman image < store.sequel"
-FUNCTIONS = ["renew", "plan", "tell", "show", "health", "forecast", "come", "fits", "backup", "morning", "safe", "leave", "night",
+RENEWAL = "renew() {"
+FUNCTIONS = ["renew", "begin", "counts", "moved", "forget", "plan", "tell", "show", "health", "forecast", "come", "fits", "backup", "morning", "safe", "leave", "night",
              "members", "each", "stop", "start", "lose", "empty", "even"]
 RACKS, MOST_ROUNDS = 20, 20
 KINDS = "24", "12 to 36", "6 to 48"  # of topologies, by the slots of their nodes
@@ -105,7 +107,17 @@ def lines_of(output):
     return replies.split("\n")[1:-1], mark + tables
 
 
-def renew(count, shell, recipe):
+def counted(commands, replies):
+    """The lines that `counts` prints, in any order."""
+    kinds, ended = Counter(), 0
+    for command, reply in zip(commands, replies):
+        _, word, *given = reply.split(" ")
+        kinds[" ".join([command.split(" ")[0], word, *(given[5:6] if word == "granted" else given[:1] if word == "refused" else [])])] += 1
+        ended += int(given[1]) if word == "ticked" else 0
+    return sorted([*(f"{kind} {number}" for kind, number in kinds.items()), f"leases ended by ticks {ended}"])
+
+
+def renew(count, shell, recipe, counts):
     """Runs the recipe on three days in a row, and compares each day's file with the whole history."""
     topology = harness.topology_of(harness.nodes_in_order(20, 4)).encode()
     whole = topology + b"%%\n"
@@ -124,6 +136,12 @@ def renew(count, shell, recipe):
         ran = shell.run(f"{recipe}renew")
         count.check(f"day {day}: the recipe ends with {ran.returncode}: {ran.stderr}", ran.returncode == 0)
         count.check(f"day {day}: the nodes are others", shell.read("nodes.toml") == topology)
+        count.check(f"day {day}: the old file is gone", shell.read(f"until.{len(replies)}") == file)
+        shell.run(f"{recipe}renew")  # (nothing was told since, and the old file stays)
+        count.check(f"day {day}: the old file is another", shell.read(f"until.{len(replies)}") == file)
+        ran = shell.run(f"{counts}counts until.*")
+        wanted = counted([command for commands in DAYS[:day] for command in commands], replies)
+        count.check(f"day {day}: {ran.stdout!r} {ran.stderr}, and not {wanted}", sorted(ran.stdout.splitlines()) == wanted)
     kept = shell.read("store.sequel") + b"place x\n"
     shell.write("store.sequel", kept)
     ran = shell.run(f"{recipe}renew")
@@ -204,9 +222,10 @@ class Month:
     def tell(self, *commands):
         self.make("tell " + " ".join(f"'{command}'" for command in commands), *commands)
 
-    def members(self, kind, domain):
-        """The nodes of a domain that are not gone."""
-        return [node for node in shown.nodes_of(self.store, [kind, domain]) if self.store.mode[node] != "gone"]
+    def members(self, kind, *domains):
+        """The nodes of domains that are not gone, in the order of the topology."""
+        named = {node for domain in domains for node in shown.nodes_of(self.store, [kind, domain])}
+        return [node for node in self.store.nodes if node in named and self.store.mode[node] != "gone"]
 
     def harmed(self, word, kind, domain):
         """The rows of the stripes that an outage of a domain would harm."""
@@ -239,14 +258,15 @@ class Month:
         self.run(f"night {domain + 1}", rows, [] if rows else [f"upgrade {domain + 1}"], status=1)  # (one upgrades already)
         self.tell(f"upgraded {domain}")
 
-    def work_on(self, kind, domain):
-        """A domain stops, which the morning shows, and is back."""
-        nodes = self.members(kind, domain)
-        self.make(f"stop {kind} {domain}", *(f"down {node}" for node in nodes))
-        self.run(f"stop {kind} {domain}", [])  # (its nodes are down)
+    def work_on(self, kind, *domains):
+        """Domains stop, which the morning shows, and are back."""
+        nodes, named = self.members(kind, *domains), " ".join([kind, *map(str, domains)])
+        self.run(f"show domains {kind}", shown.shown(f"domains {kind}", self.store, self.made).splitlines())
+        self.make(f"stop {named}", *(f"down {node}" for node in nodes))
+        self.run(f"stop {named}", [])  # (their nodes are down)
         self.morning()
-        self.make(f"start {kind} {domain}", *(f"up {node}" for node in nodes))
-        self.run(f"start {kind} {domain}", [])
+        self.make(f"start {named}", *(f"up {node}" for node in nodes))
+        self.run(f"start {named}", [])
 
     def lose(self, kind, domain):
         """Gives up a domain, and repairs."""
@@ -291,6 +311,17 @@ class Month:
         self.shell.write("rack.toml", harness.topology_of(nodes).encode())
         self.store, self.made = Store.begin({**self.store.nodes, **nodes}, self.store.image(self.made))
         self.run("come rack.toml", [])
+        self.count.check("nodes.toml lacks those that came", harness.nodes_of(self.shell.read("nodes.toml")) == self.store.nodes)
+
+    def forget(self):
+        """Nodes that are gone are left out."""
+        nodes = {number: node for number, node in self.store.nodes.items() if self.store.mode[number] != "gone"}
+        image = "".join(line for line in self.store.image(self.made).splitlines(True) if not re.fullmatch("node [0-9]+ gone\n", line))
+        self.count.check("no node is gone", len(nodes) < len(self.store.nodes))
+        kept, (self.store, _) = self.shell.read("store.sequel"), Store.begin(nodes, image)
+        self.run("forget", [])
+        self.count.check("`forget` keeps no file", self.shell.read(f"until.{self.made}") == kept)
+        self.compare("after `forget`", [view for view in VIEWS if view != "capacity"])
 
     def even(self):
         """Rounds of `even`, until it prints nothing."""
@@ -361,6 +392,7 @@ def first_day(it):
     it.count.check(f"Monday: {reasons}", reasons == ["ok"])
     it.night(3)
     it.work_on("fault", 7)
+    it.work_on("fault", 10, 6)
     it.lose("fault", 8)
     end_day(it, RACKS, 6)
     it.make("leave 5", "drain 5")
@@ -432,6 +464,7 @@ def month(count, program):
         names = re.findall(r"^(\w+)\(\)", it.functions, re.MULTILINE)
         count.check(f"the functions of the month are {names}", names == FUNCTIONS)
         three_days(it)
+        it.forget()
 
 
 def drawn_topology(seed):
@@ -547,8 +580,9 @@ def main(words):
     program, count = harness.program_of(words), harness.Count()
     found = recipes()
     (renewal,) = [recipe for recipe in found if RENEWAL in recipe]
+    counts, moved = ([recipe for recipe in found if recipe.startswith(f"{name}() {{")][0] for name in ("counts", "moved"))
     with tempfile.TemporaryDirectory(prefix="lrcman-recipes-") as folder:
-        renew(count, Shell(program, folder), renewal)
+        renew(count, Shell(program, folder), renewal, counts)
     others = {recipe.split("\n")[0]: recipe for recipe in found if recipe != renewal and not re.match(r"\w+\(\) \{", recipe)}
     count.check(f"recipes of which nothing is said here, or that are gone: {set(others) ^ set(PRINTS)}", set(others) == set(PRINTS))
     for first, recipe in others.items():
@@ -568,6 +602,12 @@ def main(words):
             if "tools/takeover" in recipe:
                 told = shell.lrcman("show stripes", shell.read("store.sequel")).stdout.decode()
                 count.check(f"{first}: the store begins with {told}", ",risk,2,0x1000,12," in told)
+                shell.run(f"{moved}moved yes; {recipe}")
+                told = shell.lrcman("show stripes", shell.read("store.sequel")).stdout.decode()
+                count.check(f"{first}: a move that is not needed is written: {told}", ",risk,2,0x1000,12," in told)
+                shell.run(f"{moved}moved; {recipe}")
+                told = shell.lrcman("show stripes", shell.read("store.sequel")).stdout.decode()
+                count.check(f"{first}: the moves are not written: {told}", ",whole," in told and shell.read("report.csv").count(b"\n") == 1)
     month(count, program)
     capacity(count, program)
     few_racks(count, program)
