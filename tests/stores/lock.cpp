@@ -29,7 +29,9 @@ int main(int, char **words) {
     long before = 0;
     std::vector<long> between;
     for (int call = 0; call < std::atoi(words[2]); call++) {
-        std::this_thread::sleep_for(std::chrono::microseconds(200));
+        // On a busy machine it may take long until somebody looks again.
+        do std::this_thread::sleep_for(std::chrono::microseconds(200));
+        while (looks == before);
         auto asked = looks.load();
         lock.lock();
         auto now = looks.load();

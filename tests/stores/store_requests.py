@@ -141,7 +141,7 @@ class Requests:
 class Running:
     """A store that runs as a process of its own, with its input and output. One that hangs is killed after a while."""
 
-    def __init__(self, *words, seconds=120, **how):
+    def __init__(self, *words, seconds=600, **how):
         self.process = subprocess.Popen(list(map(str, words)), stdin=subprocess.PIPE, stdout=subprocess.PIPE,
                                         stderr=subprocess.PIPE, text=True, **how)
         self.guard = threading.Timer(seconds, self.process.kill)

@@ -295,7 +295,7 @@ def test_silent(count, cluster, server, room):
     numbers = [int((reply or "- 0").split()[1]) for reply in replies]
     count.check(f"standby: each request is made once: {replies}", numbers == [1, 2, 3])
     count.check("standby: the third ends well", third.end()[1] == 0)
-    count.check(f"standby: the next led after {took} seconds", all(0.8 * seconds <= it <= 2 * seconds for it in took))
+    count.check(f"standby: the next led after {took} seconds", all(0.5 * seconds <= it <= 2 * seconds for it in took))
     print(f"standby: primary silent: the next led after {took[0]:.1f} and {took[1]:.1f} s, of which {seconds} s are its limit")
 
 
