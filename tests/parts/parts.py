@@ -35,7 +35,8 @@ class Part:
     needs: str = ""
     minutes: float | None = None
     always: bool = False
-    beside: bool = False
+    first: bool = False
+    lanes: int = 1
 
     @property
     def words(self):
