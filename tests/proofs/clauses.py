@@ -39,11 +39,12 @@ def crates():
     return {name: [it for it in libraries if it in named] for name, libraries in named.items()}
 
 
+@functools.cache
 def crates_below(name):
     found = []
     for library in crates()[name]:
-        found += [it for it in [*crates_below(library), library] if it not in found]
-    return found
+        found += [it for it in (*crates_below(library), library) if it not in found]
+    return tuple(found)
 
 
 # Sources.
@@ -98,8 +99,8 @@ def behind_generics(words):
     return at
 
 
-def public_items(tokens, around="", is_open=False):
-    """The public items of a source: of each the name by which definitions may know it, and its text without a body."""
+def items(tokens):
+    """The items of a source: of each its head with the clauses, and what stands in the brackets of its body."""
     head, depth, at = [], 0, 0
     while at < len(tokens):
         token = tokens[at]
@@ -109,25 +110,45 @@ def public_items(tokens, around="", is_open=False):
         if depth or token not in "{;":
             head.append(token)
             continue
-        text = " ".join(head)
-        is_public = is_open or head[:1] == ["pub"] and head[1:2] != ["("]
         after = at if token == ";" else closing(tokens, at - 1)
-        inside = tokens[at : after - 1] if token == "{" else []
-        words = [it for it in head if it not in ("pub", "const", "unsafe", "extern") and it[:1] != '"']
-        if token == "{" and (CLAUSE.search(text) or "use" in head[:3]):
+        inside, at = tokens[at : after - 1] if token == "{" else [], after
+        if token == "{" and (CLAUSE.search(" ".join(head)) or "use" in head[:3]):
             head += ["{", *inside, "}"]
-            at = after
-            continue
+        else:
+            yield head, inside
+            head = []
+
+
+def without_marks(head):
+    return [it for it in head if it not in ("pub", "const", "unsafe", "extern") and it[:1] != '"']
+
+
+def is_function(words):
+    return "fn" in words and words[0] not in ("impl", "trait")
+
+
+def function_name(words):
+    return words[words.index("fn") + 1]
+
+
+def subject(words):
+    """The type of an impl, and whether it is of a trait."""
+    of_trait = "for" in words
+    return words[words.index("for") + 1] if of_trait else words[behind_generics(words)], of_trait
+
+
+def public_items(tokens, around="", is_open=False):
+    """The public items of a source: of each the name by which definitions may know it, and its text without a body."""
+    for head, inside in items(tokens):
+        text, words = " ".join(head), without_marks(head)
+        is_public = is_open or head[:1] == ["pub"] and head[1:2] != ["("]
         kind = words[0] if words else ""
         name = words[1] if len(words) > 1 else ""
-        if "fn" in words and kind not in ("impl", "trait"):
-            name = words[words.index("fn") + 1]
+        if is_function(words):
             if is_public:
-                yield around or name, f"{around} {text}"
+                yield around or function_name(words), f"{around} {text}"
         elif kind == "impl":
-            of_trait = "for" in words
-            subject = words[words.index("for") + 1] if of_trait else words[behind_generics(words)]
-            yield from public_items(inside, subject, of_trait)
+            yield from public_items(inside, *subject(words))
         elif kind == "trait":
             yield name, text
             yield from public_items(inside, name, True)
@@ -142,7 +163,25 @@ def public_items(tokens, around="", is_open=False):
             yield name, f"{text} {fields}"
         elif is_public and kind not in ("mod", "macro_rules"):
             yield name or kind, text
-        head, at = [], after
+
+
+def functions(tokens, around=""):
+    """The functions of a source that implement no trait: of each the name, with that of its type, and its head with the clauses."""
+    for head, inside in items(tokens):
+        words = without_marks(head)
+        kind = words[0] if words else ""
+        if is_function(words):
+            yield f"{around}::{function_name(words)}".removeprefix("::"), head
+        elif kind in ("trait", "mod"):
+            yield from functions(inside, words[1] if kind == "trait" else around)
+        elif kind == "impl":
+            name, of_trait = subject(words)
+            yield from () if of_trait else functions(inside, name)
+
+
+def tokens_of(path):
+    """The tokens of a source that count, without comments and attributes."""
+    return without_attributes([it for it in TOKEN.findall(text_of(path)) if is_kept(it)])
 
 
 class Item(NamedTuple):
@@ -158,8 +197,7 @@ def sources(crate):
     """The public items of a crate's sources."""
     found = []
     for path in files_below(f"{TOP}/crates/{crate}/src", ".rt"):
-        tokens = [it for it in TOKEN.findall(text_of(path)) if is_kept(it)]
-        found += [Item(*it, path) for it in public_items(without_attributes(tokens))]
+        found += [Item(*it, path) for it in public_items(tokens_of(path))]
     return found
 
 
