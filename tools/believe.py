@@ -4,8 +4,12 @@ Usage: tools/believe               the definitions, and how many they are
        tools/believe --files       the files alone, a line for each crate: those to be believed, those that only public clauses
                                    of other calls reach, or none, and those that are marked as internal
        tools/believe --unreached   the definitions that no public clause reaches, and that are not marked as internal
-       tools/believe --check       tells of each public clause that uses a definition marked as internal, and of each definition
-                                   that none uses and that is not marked; its last line is 'N passed, M failed'
+       tools/believe --check       tells of each public clause that uses a definition marked as internal, of each definition
+                                   that none uses and that is not marked, and of what --pages prints; its last line is
+                                   'N passed, M failed'
+       tools/believe --pages       what README.md and docs/PROMISES.md have otherwise than the sources: numbers of definitions,
+                                   functions without clauses, rows for crates, names of functions and laws
+       tools/believe --write       writes what stands between marks in these pages
 
 A definition is internal if the first line of its file says so, or if the comment above it begins with `(internal)`.
 
@@ -21,6 +25,7 @@ from collections import namedtuple
 from tests import harness
 from tests.proofs import clauses
 from tests.proofs.clauses import TOP
+from tools import claims
 
 INTERNAL = "-- Internal: no public clause reaches these definitions."
 IMPORT = re.compile(r"\buse\s+Rattle\.(\w+)\.specs\.([A-Z]\w*)(?:\.\{([^}]*)\}|\s+as\s+(\w+))")
@@ -145,6 +150,16 @@ def is_of_book(clause):
     return (clause.crate, clause.item) == ("lrc_book", "Book")
 
 
+def counts():
+    """How many definitions the sentence of docs/PROMISES.md rests on, and what is said of bytes."""
+    sentence = claims.part(clauses.text_of(f"{TOP}/docs/PROMISES.md"), "## The sentence\n", "\n\n<a id=")
+    laws = [it for it in claimed() if it.is_law]
+    book = reached_by(filter(is_of_book, claimed()))
+    more = reached_by(it for it in laws if it.crate == "lrc_rules" and is_named(it.name, sentence)) - book
+    of_bytes = reached_by(it for it in laws if it.crate == "lrc_durability") - book - more
+    return claims.Counts(len(book), len(more), sum(crate == "lrc_rules" for crate, _, _ in book | more), len(of_bytes))
+
+
 def by_file(found):
     """The definitions by crate and file, in the order of crates.txt and of the files."""
     for (crate, module), of_module in modules().items():
@@ -191,6 +206,8 @@ def check():
         count.check(f"{it.crate} {it.item} {it.name} uses what is internal: {named}", not internal)
     for crate, module, name in sorted(unreached()):
         count.check(f"{crate}/specs/{module}.antt {name}: no public clause reaches it, and it is not marked as internal", False)
+    wrong = list(claims.wrong(counts()))
+    count.add(len(claims.BLOCKS) + 1, wrong, len(wrong))
     return count.report()
 
 
@@ -205,6 +222,11 @@ def main(words):
             print_all(unreached())
         case ["--check"]:
             return check()
+        case ["--pages"]:
+            for line in claims.wrong(counts()):
+                print(f"wrong: {line}")
+        case ["--write"]:
+            claims.write(counts())
         case _:
             print(__doc__)
             return 2

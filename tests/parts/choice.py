@@ -19,7 +19,7 @@ FULL = "sweep replay show limits packages bench budget tables"  # those over the
 LIBRARY = "limits embed views bytes beside stores service cluster packages"
 ROWS = [
     # Pages.
-    ("README.md", "compare", ""),
+    ("README.md", "believe compare", ""),
     ("docs/RULES.md", "compare", ""),
     ("docs/OPERATING.md", "compare recipes takeover balance service", ""),
     ("docs/SERVICE.md", "service", ""),

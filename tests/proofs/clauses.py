@@ -166,12 +166,12 @@ def public_items(tokens, around="", is_open=False):
 
 
 def functions(tokens, around=""):
-    """The functions of a source that implement no trait: of each the name, with that of its type, and its head with the clauses."""
+    """The functions of a source that implement no trait: of each the name, with that of its type, its head, and its body."""
     for head, inside in items(tokens):
         words = without_marks(head)
         kind = words[0] if words else ""
         if is_function(words):
-            yield f"{around}::{function_name(words)}".removeprefix("::"), head
+            yield f"{around}::{function_name(words)}".removeprefix("::"), head, inside
         elif kind in ("trait", "mod"):
             yield from functions(inside, words[1] if kind == "trait" else around)
         elif kind == "impl":
