@@ -12,7 +12,8 @@ by default the one that `rt ci` or `rt run` has built in crates/lrcman.
   or a lease can have; in the last of 512 nodes; in one behind more rows of nodes than a store has; and small ones for each cause.
 - A script that places 4,096 stripes, and has more than 1,000 at risk at its end; one over 4,096 stripes that are all lost;
   commands after 1,000 ticks; and commands after the highest numbers that an image may have.
-- 300 books of the library that are closed again, which may not stay in memory.
+- To the library alone: 60,000 calls in one; a tick that ends each lease of the full store, with its changes; and 300 books that are
+  closed again, which may not stay in memory.
 - To the program alone: 4 MiB of lines of which the last is bad, or none, in one script and in two; two scripts over 512 nodes;
   and nodes in 256 fault or upgrade domains.
 
@@ -358,14 +359,25 @@ def forecasts():
     return found
 
 
+@cache
+def tables():
+    """The tables of the full store, by their views."""
+    return {view: shown.shown(view, full_store()[0], full.BEFORE) for view in shown.VIEWS}
+
+
+@cache
+def outlooks():
+    """Of each forecast the table, and why stripes are harmed."""
+    return [shown.outlook(store, after, shown.newly_away(word, store, nodes)) for store, _, word, _, nodes, _, after in forecasts()]
+
+
 def test_tables(count, program):
     store, image = full_store()
     given = image + harness.topology_of(store.nodes)
-    for view in shown.VIEWS:
+    for view, table in tables().items():
         status = 4 if view == "health" and shown.is_in_danger(store) else 0
-        expect(count, "the full store", program, ["show", *view.split(" ")], given, shown.shown(view, store, full.BEFORE), status)
-    for store, image, word, named, nodes, _, after in forecasts():
-        table, harms = shown.outlook(store, after, shown.newly_away(word, store, nodes))
+        expect(count, "the full store", program, ["show", *view.split(" ")], given, table, status)
+    for (store, image, word, named, *_), (table, harms) in zip(forecasts(), outlooks()):
         given = image + harness.topology_of(store.nodes)
         expect(count, f"{len(store.leases)} leases", program, [word, *named], given, table, 4 if harms else 0)
 
@@ -392,6 +404,39 @@ def test_book_forecasts(count, shared):
         found = of_book(shared, store, image, lambda book, asked=(outage, nodes): walked.forecast_in_book(book, *asked))
         right = walked.outlook(store, after, outage, nodes)
         count.check(f"the library, {word} of {len(nodes)} nodes: {str(found)[:80]}", found == right)
+
+
+def test_book_tables(count, shared):
+    numbers = [lrc_embed.View[view.replace(" ", "_").upper()] for view in tables()]
+    found = of_book(shared, *full_store(), lambda book: list(map(book.show, numbers)))
+    count.check(f"the library, the tables of the full store: {str(found)[:80]}", found == list(tables().values()))
+    for (store, image, word, _, nodes, outage, _), (table, harms) in zip(forecasts(), outlooks()):
+        found = of_book(shared, store, image, lambda book, asked=(outage, nodes): book.forecast_table(*asked))
+        count.check(f"the library, the table of {word} of {len(nodes)} nodes: {str(found)[:80]}", found == (table, not harms))
+
+
+def test_calls(count, shared):
+    """A call of many calls."""
+    store, lines = full.Store(TWENTY), ["place 1", "next", "tick", "down 3", "up 3", "drop 1"] * 10_000
+    asked = [(1 + at % 8, command_of(line)) for at, line in enumerate(lines)]
+    with lrc_embed.Book(shared, harness.topology_of(TWENTY)) as book:
+        entries, status = book.calls(asked)
+    found, right = [library.text_of(it.reply) for it in entries], [store.call(1 + at % 8, line) for at, line in enumerate(lines)]
+    count.check(f"the library, {len(lines)} calls in one: {status!r} after {len(found)}", (found, status) == (right, lrc_embed.Status.DONE))
+
+
+def test_changes(count, shared):
+    """A tick that ends all leases at once, with a row for each."""
+    store = full.full_store()
+    for key, lease in list(store.leases.items()):
+        store.end_lease(key)
+        store.set_lease(key, lease._replace(expiry=CLOCK + 1))
+    image, was = store.image(full.BEFORE), comparing.fragments_in_model(store)
+    found = of_book(shared, store, image, lambda book: book.call_changes(1, command_of("tick")))
+    right = store.call(1, "tick"), comparing.changes_in_model(was, comparing.fragments_in_model(store))
+    if isinstance(found, tuple):
+        found = library.text_of(found[0].reply), [comparing.change_in_book(row) for row in found[1]]
+    count.check(f"the library, a tick that ends {len(right[1])} leases: {str(found)[:80]}", found == right)
 
 
 def resident():
@@ -493,6 +538,9 @@ def main(words):
         test_book_scripts(count, shared)
         test_walks(count, shared)
         test_book_forecasts(count, shared)
+        test_book_tables(count, shared)
+        test_calls(count, shared)
+        test_changes(count, shared)
         test_images(count, "the library", begin_book(shared))
         test_closes(count, shared)
     return count.report()
