@@ -27,6 +27,7 @@ import re
 import sys
 
 from tests import harness
+from tests.figures import minutes
 from tests.harness import TOP
 from tests.proofs import clauses
 
@@ -323,6 +324,7 @@ def self_test(count):
         files, right = SMALL.get(name, ({}, None))
         found = figure.count(files)
         count.check(f"{name} counts {found} in a small text, and not {right}", found == right)
+    minutes.self_test(count)
 
 
 def count_of(name):
