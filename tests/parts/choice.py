@@ -52,12 +52,12 @@ ROWS = [
     ("service/client/client.go", "service cluster", ""),
     ("service/book/bytes.go", "embed service packages", ""),
     # Crates: what only the program stands on, what both stand on, what neither does, and the tests of crates.
-    ("crates/lrc_outputs/src/play.rt", f"edits believe tried {QUICK}", f"proofs {FULL}"),
-    ("crates/lrc_show/src/status.rt", f"edits believe tried {QUICK}", f"proofs {FULL} {LIBRARY}"),
+    ("crates/lrc_outputs/src/play.rt", f"edits believe {QUICK}", f"proofs {FULL}"),
+    ("crates/lrc_show/src/status.rt", f"edits believe {QUICK}", f"proofs {FULL} {LIBRARY}"),
     ("crates/lrc_walks/src/lib.rt", "edits believe", f"proofs {LIBRARY}"),
     ("crates/lrc_store/src/decide.rt", f"edits believe tried {QUICK}", f"proofs growth {FULL} {LIBRARY}"),
     ("crates/lrc_durability/src/laws.rt", "edits believe", "proofs"),
-    ("crates/lrc_sessions_tests/src/code.rt", "edits believe tried", "proofs"),
+    ("crates/lrc_tests/src/code.rt", "edits believe tried", "proofs"),
     ("crates/probes/src/main.rt", "edits believe", "proofs growth"),
     ("crates/lrc_embed/include/lrc_embed.h", "edits embed views bytes stores service cluster packages", ""),
     # What no compiler reads.
@@ -67,15 +67,14 @@ ROWS = [
     ("crates/lrc_rules/must-fail/a_new_one.edit", "edits", "proofs"),
     ("crates/lrcman/stdout", "edits", "proofs"),
     # Together.
-    ("crates/lrc_show/src/status.rt tests/program/show docs/SPEED.md", f"edits believe tried {QUICK}", "proofs sweep replay limits packages bench budget tables embed views bytes beside stores service cluster"),
+    ("crates/lrc_show/src/status.rt tests/program/show docs/SPEED.md", f"edits believe {QUICK}", "proofs sweep replay limits packages bench budget tables embed views bytes beside stores service cluster"),
     # What no part looks at.
     (".gitignore", "", ""),
 ]
 # Crates of which `tried` runs the tests, for a changed file.
 TRIED = [
-    ("crates/lrc_show/src/status.rt", ["lrc_tool_tests"]),
-    ("crates/lrc_store/src/decide.rt", ["lrc_sessions_tests", "lrc_tool_tests"]),
-    ("crates/lrc_samples/src/lib.rt", ["lrc_sessions_tests"]),
+    ("crates/lrc_store/src/decide.rt", ["lrc_tests"]),
+    ("crates/lrc_samples/src/lib.rt", ["lrc_tests"]),
 ]
 NEAREST = [("sho", "show"), ("tests/program/show", "show"), ("swep", "sweep"), ("store", "stores"), ("recipe", "recipes")]
 

@@ -33,7 +33,6 @@ NOWHERE = {
 }
 OLD = {
     "A command": Old(r"(?i)undrain", NOWHERE | {
-        "crates/lrc_sessions_tests/src/runs/mixed.rt": "its commands are drawn",
         "tests/program/replay.py": "a scenario", "tests/program/balance.py": "a scenario",
         "tools/balance": "it plans with what it needs",
         "tests/library/bytes.py": "a scenario", "service/internal/httpapi/recipes_test.go": "a scenario",

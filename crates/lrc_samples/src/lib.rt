@@ -1,4 +1,4 @@
-//! Stores that the tests of several crates use.
+//! A store that the tests of several crates use.
 #![tactic(auto)]
 
 ghost use Rattle.std.specs.Prelude.{◌≡◌, IfOk, IfErr};
@@ -6,12 +6,10 @@ ghost use Rattle.lrc_topology.specs.declared.error.TopologyError.TheVariants as 
 ghost use Rattle.lrc_samples.specs.Stores.{twenty};
 
 mod seats;
-mod stores;
 
 use lrc_topology::{Topology, TopologyError};
 pub use seats::{first_seats, second_seats};
 use std::alloc::Global;
-pub use stores::{mixed_nodes, mixed_number};
 
 const TWENTY_NODES: &str = "\
 node = [

@@ -1,0 +1,77 @@
+//! Books over twenty nodes whose history is full.
+
+ghost use Rattle.std.specs.Prelude.{◌≤◌};
+
+use crate::close::close_book;
+use crate::expect::expect_number;
+use lrc_book::{Book, Command, Reply};
+use lrc_code::{Fault, SessionNo, StripeNo};
+use lrc_samples::{first_seats, second_seats, twenty_nodes};
+use std::alloc::Global;
+use std::process::Abort;
+use std::test::Fail;
+
+/// A command and its expected reply.
+type Row = (Command, Reply);
+
+const FIRST: SessionNo = SessionNo { value: 1 };
+
+const ONE: StripeNo = StripeNo { value: 1 };
+
+const TWO: StripeNo = StripeNo { value: 2 };
+
+/// Makes a book over twenty nodes whose history has at most `limit` entries.
+fn limited(alloc: Global, limit: u32) -> Result<Book, Fail>
+    requires limit { limit ≤ 1000000 }
+{
+    Ok(Book::with_limit(alloc, twenty_nodes(alloc)?, limit)?)
+}
+
+fn call(book: &mut Book, command: Command) -> Result<Reply, Fault> {
+    book.call(FIRST, command)
+}
+
+/// These commands are made in order, and each has the reply next to it.
+fn expect_replies(rt: &impl Abort, book: &mut Book, rows: &[Row]) {
+    for (command, reply) in rows {
+        assert!(rt; call(book, *command) == Ok(*reply));
+    }
+}
+
+/// The history has as many entries as it may have, so that no command is made.
+fn expect_full(rt: &impl Abort, book: &mut Book, command: Command) {
+    assert!(rt; call(book, command) == Err(Fault::HistoryFull));
+}
+
+#[test]
+fn a_history_of_two_entries_takes_no_third(rt: HostRuntime) -> Result<(), Fail> {
+    let mut book = limited(rt.alloc(), 2)?;
+    place_both(&rt, &mut book);
+    close_book(book);
+    Ok(())
+}
+
+fn place_both(rt: &impl Abort, book: &mut Book) {
+    let rows = [
+        (Command::Place(ONE), Reply::Placed(first_seats())),
+        (Command::Place(TWO), Reply::Placed(second_seats())),
+    ];
+    expect_replies(rt, book, &rows);
+    expect_full(rt, book, Command::Next);
+    expect_number(rt, book.history().len() as u64, 2);
+}
+
+#[test]
+fn a_history_without_room_takes_no_call(rt: HostRuntime) -> Result<(), Fail> {
+    let mut book = limited(rt.alloc(), 0)?;
+    refuse_all(&rt, &mut book);
+    close_book(book);
+    Ok(())
+}
+
+fn refuse_all(rt: &impl Abort, book: &mut Book) {
+    for command in [Command::Place(ONE), Command::Next, Command::Tick] {
+        expect_full(rt, book, command);
+    }
+    expect_number(rt, book.history().len() as u64, 0);
+}
