@@ -17,10 +17,17 @@ eight scripts of mixed commands over one store. From each run it then makes wron
 A run of one script is cut in two: `image` of the first part has to be the image of the model after it, and `resume` of
 this image and of the rest has to print what the whole run printed: the same replies with the same places, and the same
 tables. `image` of it has to be the image after the whole run. Each example is cut at each place, and longer runs of mixed
-commands at some. With --quick a fifteenth of the runs is made, and of the cuts. The last line is 'N passed, M failed'."""
+commands at some. With --quick a fifteenth of the runs is made, and of the cuts.
+
+A run of 2,000 commands over twenty nodes has the replies of the model, which searches all nodes for each seat. And each part of
+a bundle, from its first byte on, has its output or its refusal. The last line is 'N passed, M failed'."""
+import functools
+import os
 import re
 import subprocess
 import sys
+import tomllib
+from concurrent.futures import ThreadPoolExecutor
 
 from tests import harness
 from tests.harness import parts_of, read
@@ -31,6 +38,7 @@ from tests.program.judging import Wrong, index_of, indexes_of, is_right, judge, 
 RUNS, SCRIPTS, COMMANDS = 16, 8, 40
 CUT_RUNS, CUT_COMMANDS, CUTS = 8, 160, 20  # runs of mixed commands that are cut, their commands, and the cuts of each
 EACH = 15  # with --quick, one of so many runs and cuts is made
+CHOICES = 2_000  # the commands of the run whose seats are searched for
 
 
 # Wrong outputs, each made from a right one and the positions of its replies. None where there is nothing to change.
@@ -319,12 +327,77 @@ def judge_cuts(count, program, step):
             count.check(f"mixed commands {run} are cut at {at}", right)
 
 
+# The choice of nodes, beside a search of all nodes.
+
+
+def lines_that_choose():
+    """Commands by a sequence that goes through all numbers below 65,537. Half of them ask for seats; others free some, or change
+    which nodes take any."""
+    number = 1
+    for _ in range(CHOICES):
+        number = (75 * number + 74) % 65_537
+        stripe, node, kind = number // 16 % 6, number // 16 % 20, number % 16
+        if kind < 7:
+            yield (f"place {stripe}", f"place {stripe}", f"place {stripe}", f"place6 {stripe}", f"place6 {stripe}", "next", "next")[kind]
+        elif kind < 11:
+            yield f"drop {stripe}"
+        elif kind < 15:
+            yield (f"fail {node}", f"join {node}", f"join {(node + 7) % 20}", f"join {(node + 13) % 20}")[kind - 11]
+        else:
+            yield "tick"
+
+
+def judge_choices(count, program):
+    bundle = harness.bundle_of(harness.nodes_in_order(20, 4), [list(lines_that_choose())]).encode()
+    output = harness.run_bundle(program, bundle).stdout
+    if judge_named(count, f"{CHOICES} commands by one rule", bundle, output):
+        for reply in (b"placed", b"granted 1 ", b"refused 103"):
+            count.check(f"{reply} is no reply", len(re.findall(rb"^[0-9]+ %s" % reply, output, re.MULTILINE)) > 9)
+
+
+# Bundles that end early.
+
+
+def refusal_of(topology):
+    """The line that refuses a part of a topology in plain form, if it is refused."""
+    try:
+        nodes = tomllib.loads(topology.decode()).get("node", [])
+    except tomllib.TOMLDecodeError:
+        return "topology 1"
+    short = [at for at, node in enumerate(nodes) if len(node) < 4]
+    return f"topology 3 {short[0]}" if short else "" if nodes else "topology 2"
+
+
+def right_for_part(part):
+    """The status and output for a part of the bundle that places one stripe, from its first byte on."""
+    topology, scripts = harness.split(part)
+    if refused := refusal_of(topology):
+        return 2, f"{refused}\n"
+    lines = [line for script in scripts for line in script if line]
+    if lines and lines != [b"place 1"]:
+        cause = {b"place": 2, b"place ": 3}.get(lines[0], 1)
+        return 1, f"line {topology.count(10) + 2} cause {cause}\n"
+    nodes, scripts = parts_of(part)
+    return 0, "\n".join([*output_of(nodes, scripts, indexes_in_turn(scripts)), ""])
+
+
+def judge_parts(count, program, step):
+    bundle = harness.bundle_of(harness.nodes_in_order(20, 4), [["place 1"]]).encode()
+    parts = [bundle[:end] for end in range(0, len(bundle), step)]
+    with ThreadPoolExecutor(os.cpu_count()) as pool:
+        for part, ran in zip(parts, pool.map(functools.partial(harness.run_bundle, program), parts)):
+            found = ran.returncode, ran.stdout.decode()
+            count.check(f"the first {len(part)} bytes: {found}", found == right_for_part(part))
+
+
 def test(program, step):
     count = Count()
     judge_itself(count)
     judge_examples(count)
     judge_runs(count, program, step)
     judge_cuts(count, program, step)
+    judge_choices(count, program)
+    judge_parts(count, program, step)
     count.check("each edit was tried", count.tried == set(EDITS))
     print(f"runs in which calls of several scripts were mixed, which nothing promises: {count.mixed}")
     return count.report()
