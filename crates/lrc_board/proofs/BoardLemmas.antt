@@ -1,5 +1,5 @@
 -- The update of a board from a book after one more batch.
-use Rattle.std.proofs.Common.{◌≡◌, ℕ, List, length, map, sym, ap, ◌∙◌, subst}
+use Rattle.std.proofs.Common.{◌≡◌, ℕ, List, length, map, ap, ◌∙◌}
 use Rattle.logbook.specs.Pages.{Book}
 use Rattle.lrc_topology.specs.declared.NodeInfo.{NodeInfo}
 use Rattle.lrc_rules.specs.States.{load}
@@ -45,18 +45,3 @@ board-renewed book start nodes last now shown spare b count lines are same writt
       );
       legal = legal;
     }
-
--- the boards that are not shown, after one more batch is published on the third
-pub boards-next : (book : Book) (start : ℕ) (nodes : List NodeInfo) (lacks now : ChangesView) (shown kept next newer' kept' : BoardView) (lines : List Line)
-    → AreBoards book start nodes lacks shown kept → IsBoard book start nodes next → next.lines ≡ lines
-    → OthersStay nodes now (state_after nodes (published start shown)) (state_after nodes (written start lines)) → newer' ≡ shown → kept' ≡ kept
-    → AreBoards book start nodes now next newer' × AreBoards book start nodes (both_changes lacks now) next kept'
-boards-next book start nodes lacks now shown kept next newer' kept' lines are right is stay newer_is kept_is =
-    let first = state_after nodes (published start kept) in
-    let second = state_after nodes (published start shown) in
-    let third = state_after nodes (published start next) in
-    let since : OthersStay nodes now second third = subst (λ (l : List Line). OthersStay nodes now second (state_after nodes (written start l))) (sym is) stay in (
-      subst (λ (x : BoardView). AreBoards book start nodes now next x) (sym newer_is) record { shown_is = right; spare_is = are.shown_is; between = since },
-      subst (λ (x : BoardView). AreBoards book start nodes (both_changes lacks now) next x) (sym kept_is)
-          record { shown_is = right; spare_is = are.spare_is; between = stays-both nodes first second third lacks now are.between since },
-    )

@@ -1,6 +1,6 @@
 -- Internal: no public clause reaches these definitions.
 -- What a batch may have changed of what a board shows, and the update of a board from a book.
-use Rattle.std.specs.Prelude.{◌≡◌, ◌≤◌, ℕ, Bool, true, false, ◌||◌, IsFalse, if◌then◌else◌, List, [], ◌∷◌, ◌++◌, length, map, fold, get_or, slice_set, Option, None}
+use Rattle.std.specs.Prelude.{◌≡◌, ℕ, Bool, true, false, ◌||◌, IsFalse, if◌then◌else◌, List, [], ◌∷◌, ◌++◌, length, map, fold, get_or, slice_set, Option, None}
 use Rattle.std.specs.List.{list_any, range_with_len}
 use Rattle.std.specs.Option.{option_map_or}
 use Rattle.logbook.specs.Pages.{Book}
@@ -169,12 +169,8 @@ renewed x b changes count lines = record {
   lines = lines;
 }
 
--- no more than those of the longest batch
-abbrev pub IsShort : ChangesView → Type 0
-IsShort c = (length c.stripes ≤ 256) × (length c.nodes ≤ 256)
-
--- The published board of a log, and another one, which lacks these changes.
-pub record AreBoards (book : Book) (start : ℕ) (nodes : List NodeInfo) (lacks : ChangesView) (shown spare : BoardView) : Type 0 where
+-- The two boards of one log: the published one, and the spare one, which lacks the last batch.
+pub record AreBoards (book : Book) (start : ℕ) (nodes : List NodeInfo) (last : ChangesView) (shown spare : BoardView) : Type 0 where
   pub shown_is : IsBoard book start nodes shown
   pub spare_is : IsBoard book start nodes spare
-  pub between : OthersStay nodes lacks (state_after nodes (published start spare)) (state_after nodes (published start shown))
+  pub between : OthersStay nodes last (state_after nodes (published start spare)) (state_after nodes (published start shown))

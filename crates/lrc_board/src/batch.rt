@@ -2,7 +2,7 @@ ghost use Rattle.std.specs.Prelude.{◌≡◌, ◌<◌, ◌≤◌, List, [], ◌
 ghost use Rattle.lrc_rules.specs.declared.entry.Entry.{Entry};
 ghost use Rattle.lrc_book.specs.Books.{FaultFits, state_of};
 ghost use Rattle.lrc_board.specs.Batches.{AreMadeBehind};
-ghost use Rattle.lrc_board.specs.Refreshed.{OthersStay, IsShort, no_changes};
+ghost use Rattle.lrc_board.specs.Refreshed.{OthersStay, no_changes};
 
 use crate::changes::Changes;
 use lrc_book::{Book, Command, Record};
@@ -34,7 +34,6 @@ pub(crate) fn add_all(
     ensures entries { AreMadeBehind book.old.history session (take result.0 commands.now) book.new.history }
     ensures same { (book.new.nodes ≡ book.old.nodes) × (book.new.limit ≡ book.old.limit) × (book.new.base ≡ book.old.base) × (book.new.before ≡ book.old.before) }
     ensures changes { OthersStay book.old.nodes changes.new (state_of book.old) (state_of book.new) }
-    ensures few { IsShort changes.new }
     ensures unchanged { result.0 ≡ 0 → changes.new ≡ no_changes }
     ensures all { result.1 ≡ None → result.0 ≡ length commands.now }
     ensures fault { IfSome result.1 (λ f. (result.0 < length commands.now) × FaultFits book.new f) }

@@ -11,6 +11,7 @@ use crate::changes::{ChangedNodes, ChangedStripes, Changes};
 use crate::line::LogPrefix;
 use crate::node_loads::NodeLoads;
 use crate::stripe_homes::{StripeHomes, homes_in};
+use left_right::Absorb;
 use lrc_book::{Book, Level};
 use lrc_code::{NodeNo, STRIPES, StripeNo, UpgradeNo};
 use lrc_topology::Topology;
@@ -69,6 +70,17 @@ impl Board {
         })
     }
 
+    /// Makes an empty board, which is replaced before a viewer can see it.
+    pub(crate) fn blank(alloc: Global, prefix: LogPrefix) -> Board {
+        Board {
+            rows: Vec::new(alloc),
+            online: Vec::new(alloc),
+            loads: NodeLoads::none(alloc),
+            count: 0,
+            prefix,
+        }
+    }
+
     /// Returns the level of a stripe, or `None` if there is no such stripe.
     pub(crate) fn level_of(&self, stripe: StripeNo) -> Option<Level>
         ensures { result ≡ level_on self.now.rows self.now.online stripe }
@@ -100,25 +112,25 @@ impl Board {
         self.prefix.again()
     }
 
-    /// Updates the board from a book with `count` entries: what the batches that it lacks and this one may have changed of
-    /// the stripes, the nodes and the loads.
+    /// Updates the board from a book with `count` entries: what the last batch and this one may have changed of the
+    /// stripes, the nodes and the loads.
     pub(crate) fn refresh(
         &mut self,
         book: &Book,
-        lacks: &Changes,
+        last: &Changes,
         now: &Changes,
         count: u64,
         prefix: &LogPrefix,
     )
         requires log { prefix.now.book ≡ self.old.book }
         requires whole { IsWhole book.now.nodes self.old }
-        ensures { self.new ≡ renewed self.old book.now (both_changes lacks.now now.now) count prefix.now.log }
+        ensures { self.new ≡ renewed self.old book.now (both_changes last.now now.now) count prefix.now.log }
     {
-        refresh_rows(&mut self.rows, book, &lacks.stripes);
+        refresh_rows(&mut self.rows, book, &last.stripes);
         refresh_rows(&mut self.rows, book, &now.stripes);
-        refresh_online(&mut self.online, book, &lacks.nodes);
+        refresh_online(&mut self.online, book, &last.nodes);
         refresh_online(&mut self.online, book, &now.nodes);
-        refresh_loads(&mut self.loads, book, lacks.loads || now.loads);
+        refresh_loads(&mut self.loads, book, last.loads || now.loads);
         self.count = count;
         self.prefix = prefix.again();
     }
@@ -284,5 +296,23 @@ fn is_online(book: &Book, node: NodeNo) -> bool
     match book.mode(node) {
         Some((_, online)) => online,
         None => false,
+    }
+}
+
+/// An operation of `left_right` that changes nothing. The publisher changes the copies itself, so no operation is ever queued.
+#[derive(Clone, Copy)]
+pub struct NoOperation;
+
+impl Absorb<NoOperation> for Board {
+    type State = ();
+
+    ghost state = { λ _. tt };
+
+    ghost applied = { λ _ _. tt };
+
+    ghost never_fails = { Unit {0} };
+
+    fn absorb_first(&mut self, _operation: &NoOperation, _other: &Board) -> Result<(), AllocError> {
+        Ok(())
     }
 }

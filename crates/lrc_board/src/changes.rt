@@ -1,4 +1,4 @@
-ghost use Rattle.std.specs.Prelude.{◌≡◌, ◌<◌, ◌≤◌, ◌+◌, ◌++◌, length, true, vec_len, vec_capacity, IfOk};
+ghost use Rattle.std.specs.Prelude.{◌≡◌, ◌<◌, ◌≤◌, ◌+◌, ◌++◌, length, vec_len, vec_capacity, IfOk};
 ghost use Rattle.std.specs.Option.{option_map_or};
 ghost use Rattle.lrc_answers.specs.Answers.{lent};
 ghost use Rattle.lrc_board.specs.Refreshed.{no_changes, both_changes, changes_by, stripes_changed_by, nodes_changed_by};
@@ -8,9 +8,6 @@ use lrc_book::{Command, Record, ReplyRef};
 use lrc_code::{NodeNo, StripeNo, UpgradeNo};
 use std::alloc::{AllocError, Global};
 use std::marker::Model;
-
-/// The most steps that a list has room for: 64 of the longest batches.
-const ROOM: usize = 16_384;
 
 /// The stripes whose code or homes a step may have changed.
 #[derive(Clone, Copy)]
@@ -28,7 +25,7 @@ pub(crate) enum ChangedNodes {
     AllIn(UpgradeNo),
 }
 
-/// What the steps of some batches may have changed of what a board shows, with room for 16,384 steps.
+/// What the steps of a batch may have changed of what a board shows, with room for those of the longest batch.
 #[derive(Drop)]
 pub(crate) struct Changes {
     pub(crate) stripes: Vec<ChangedStripes>,
@@ -45,7 +42,7 @@ impl Model for Changes {
 
     ghost view = { λ c. record { stripes = c.stripes.items; nodes = c.nodes.items; loads = c.loads } };
 
-    ghost invariant = { λ c. (16384 ≤ vec_capacity c.stripes) × (16384 ≤ vec_capacity c.nodes) };
+    ghost invariant = { λ c. (256 ≤ vec_capacity c.stripes) × (256 ≤ vec_capacity c.nodes) };
 }
 
 impl Changes {
@@ -54,16 +51,16 @@ impl Changes {
         ensures { IfOk result (λ c. c ≡ no_changes) }
     {
         Ok(Changes {
-            stripes: Vec::with_capacity(alloc, ROOM)?,
-            nodes: Vec::with_capacity(alloc, ROOM)?,
+            stripes: Vec::with_capacity(alloc, BATCH_LIMIT)?,
+            nodes: Vec::with_capacity(alloc, BATCH_LIMIT)?,
             loads: false,
         })
     }
 
     /// Adds what a step may have changed.
     pub(crate) fn add(&mut self, step: &Record)
-        requires stripes { length self.old.stripes < 16384 }
-        requires nodes { length self.old.nodes < 16384 }
+        requires stripes { length self.old.stripes < 256 }
+        requires nodes { length self.old.nodes < 256 }
         ensures { self.new ≡ both_changes self.old (changes_by step.now.command step.now.reply) }
     {
         let command = step.command();
@@ -75,24 +72,6 @@ impl Changes {
         self.loads = self.loads || loads;
     }
 
-    /// Reports whether there is room for those of the longest batch.
-    pub(crate) fn has_room(&self) -> bool
-        ensures { result ≡ true → (length self.now.stripes + 256 ≤ 16384) × (length self.now.nodes + 256 ≤ 16384) }
-    {
-        self.stripes.len() <= ROOM - BATCH_LIMIT && self.nodes.len() <= ROOM - BATCH_LIMIT
-    }
-
-    /// Adds what other steps may have changed.
-    pub(crate) fn append(&mut self, more: &Changes)
-        requires stripes { length self.old.stripes + length more.now.stripes ≤ 16384 }
-        requires nodes { length self.old.nodes + length more.now.nodes ≤ 16384 }
-        ensures { self.new ≡ both_changes self.old more.now }
-    {
-        push_all(&mut self.stripes, &more.stripes);
-        push_all(&mut self.nodes, &more.nodes);
-        self.loads = self.loads || more.loads;
-    }
-
     /// Removes all changes.
     pub(crate) fn clear(&mut self)
         ensures { self.new ≡ no_changes }
@@ -100,17 +79,6 @@ impl Changes {
         self.stripes.clear();
         self.nodes.clear();
         self.loads = false;
-    }
-}
-
-/// Adds all items of a slice.
-fn push_all<T: Copy + Drop>(items: &mut Vec<T>, more: &[T])
-    requires room { vec_len items.old + length more.now ≤ vec_capacity items.old }
-    ensures items { items.new.items ≡ items.old.items ++ more.now }
-    ensures room { vec_capacity items.new ≡ vec_capacity items.old }
-{
-    for item in more.iter() {
-        items.push_reserved(*item);
     }
 }
 

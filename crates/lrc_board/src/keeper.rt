@@ -72,8 +72,7 @@ impl<N: ViewNaming> Keeper<N> {
     }
 
     /// Makes one step of the placement object, adds its entry to the history and publishes it: a batch of one command. It
-    /// waits only while viewers read both boards that are not shown, or one of them for 16,128 commands. A `Fault` changes
-    /// nothing.
+    /// waits until no viewer reads the copy that was published before the last batch. A `Fault` changes nothing.
     ///
     /// # Errors
     ///
@@ -105,7 +104,7 @@ impl<N: ViewNaming> Keeper<N> {
     /// Makes up to 256 commands of a session in order, each as one step of the placement object, adds their entries to
     /// the history and publishes them together. Returns which calls were made, and the fault if one ended the batch: the
     /// commands before it are made and published, and it and those after it are not. If no command is made, nothing
-    /// changes. It waits only while viewers read both boards that are not shown, or one of them for 16,128 commands.
+    /// changes. It waits until no viewer reads the copy that was published before the last batch.
     ///
     /// # Errors
     ///
@@ -173,8 +172,8 @@ impl<N: ViewNaming> Keeper<N> {
         viewer.see(count, &self.log.prefix());
     }
 
-    /// Ends the published view and returns the book. It waits for looks that have begun. Later ones
-    /// find no board.
+    /// Ends the published view and returns the book. It waits for looks that have begun. `left_right` has no board for later
+    /// ones.
     pub fn into_book<R: Wait>(self, rt: &R) -> Book
         ensures { result ≡ self }
     {

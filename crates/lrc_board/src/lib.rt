@@ -22,7 +22,7 @@ mod stripe_homes;
 mod viewer;
 
 pub use batch::{BATCH_LIMIT, Batch};
-pub use board::Board;
+pub use board::{Board, NoOperation};
 pub use error::LookError;
 pub use keeper::Keeper;
 pub use line::{Entries, Line, LogPrefix, LogRule};

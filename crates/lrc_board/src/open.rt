@@ -1,5 +1,4 @@
 ghost use Rattle.std.specs.Prelude.{◌≡◌, ◌≢◌, ◌≤◌, [], replicate, IfOk, IfErr};
-ghost use Rattle.std.specs.Arc.{arc_value};
 ghost use Rattle.lrc_topology.specs.Nodes.{AreNodes};
 ghost use Rattle.lrc_rules.specs.Histories.{first_world};
 ghost use Rattle.lrc_board.specs.declared.open_error.OpenError.TheVariants as error;
@@ -14,10 +13,11 @@ use crate::log::NewLog;
 use crate::naming::ViewNaming;
 use crate::open_error::OpenError;
 use crate::publisher::Publisher;
-use crate::rule::{BoardDesk, ViewRule};
+use crate::rule::{BoardWriter, ViewRule};
 use crate::viewer::Viewer;
+use left_right::reader::Factory;
+use left_right::writer::Writer;
 use lrc_book::Book;
-use lrc_copies::{Desk, Factory};
 use lrc_topology::Topology;
 use std::alloc::Global;
 use std::sync::Wait;
@@ -25,7 +25,7 @@ use std::sync::Wait;
 /// Makes `readers` viewers that have seen no entry.
 fn viewers<N: ViewNaming>(
     alloc: Global,
-    factory: &Factory<Board, ViewRule<N>>,
+    factory: &Factory<Board, (), ViewRule<N>>,
     prefix: &LogPrefix,
     readers: u8,
 ) -> Result<Vec<Viewer<N>>, OpenError>
@@ -44,52 +44,62 @@ fn viewers<N: ViewNaming>(
     Ok(made)
 }
 
-/// Makes the boards, which all are of a book without entries.
-fn desk_of<N: ViewNaming, R: Wait>(
+/// Replaces the spare board. `Writer::new` has no clause that says what its second copy is.
+fn put_spare<N: ViewNaming, R: Wait>(rt: &R, writer: BoardWriter<N>, board: Board) -> BoardWriter<N>
+    ensures shown { result.desk.shown.value ≡ writer.desk.shown.value }
+    ensures spare { result.desk.spare.value ≡ board }
+{
+    let mut writer = writer;
+    let (open, mut spare) = writer.desk.open(rt);
+    *spare = board;
+    writer.desk = open.shelve(spare);
+    writer
+}
+
+/// Makes the writer of the boards, which both are of a book without entries.
+fn writer_of<N: ViewNaming, R: Wait>(
     alloc: Global,
     rt: &R,
     topology: &Topology,
     prefix: &LogPrefix,
     readers: u8,
-) -> Result<BoardDesk<N>, OpenError>
+) -> Result<BoardWriter<N>, OpenError>
     requires log { (prefix.now.book ≡ N.log) × (prefix.now.log ≡ []) }
     requires nodes { topology.now ≡ N.topology }
     requires readers { (1 ≤ readers) × (readers ≤ 8) }
-    ensures shown { IfOk result (λ d. arc_value d.shown.copy ≡ empty_board N.topology N.log) }
-    ensures older { IfOk result (λ d. arc_value d.older.copy ≡ empty_board N.topology N.log) }
-    ensures newer { IfOk result (λ d. arc_value d.newer.copy ≡ empty_board N.topology N.log) }
+    ensures shown { IfOk result (λ w. w.desk.shown.value ≡ empty_board N.topology N.log) }
+    ensures spare { IfOk result (λ w. w.desk.spare.value ≡ empty_board N.topology N.log) }
     ensures err { IfErr result (λ e. e ≡ error.OutOfMemory) }
 {
     let first = Board::new(alloc, topology, prefix.again())?;
     let second = Board::new(alloc, topology, prefix.again())?;
-    let third = Board::new(alloc, topology, prefix.again())?;
-    let desk = Desk::new(alloc, rt, first, second, third, readers as usize)?;
-    Ok(desk)
+    let blank = Board::blank(alloc, prefix.again());
+    let writer = Writer::new(alloc, first, blank, readers as usize)?;
+    Ok(put_spare(rt, writer, second))
 }
 
-/// Makes the boards, and the viewers of them, which have seen no entry.
-fn desk_and_viewers<N: ViewNaming, R: Wait>(
+/// Makes the writer of the boards, and the viewers of them, which have seen no entry.
+fn writer_and_viewers<N: ViewNaming, R: Wait>(
     alloc: Global,
     rt: &R,
     topology: &Topology,
     prefix: &LogPrefix,
     readers: u8,
-) -> Result<(BoardDesk<N>, Vec<Viewer<N>>), OpenError>
+) -> Result<(BoardWriter<N>, Vec<Viewer<N>>), OpenError>
     requires log { (prefix.now.book ≡ N.log) × (prefix.now.log ≡ []) }
     requires nodes { topology.now ≡ N.topology }
     requires are_nodes { AreNodes N.topology }
     requires readers { (1 ≤ readers) × (readers ≤ 8) }
-    ensures shown { IfOk result (λ r. arc_value r.0.shown.copy ≡ empty_board N.topology N.log) }
-    ensures older { IfOk result (λ r. arc_value r.0.older.copy ≡ empty_board N.topology N.log) }
-    ensures newer { IfOk result (λ r. arc_value r.0.newer.copy ≡ empty_board N.topology N.log) }
+    ensures shown { IfOk result (λ r. r.0.desk.shown.value ≡ empty_board N.topology N.log) }
+    ensures spare { IfOk result (λ r. r.0.desk.spare.value ≡ empty_board N.topology N.log) }
     ensures viewers { IfOk result (λ r. r.1.items ≡ replicate readers []) }
     ensures err { IfErr result (λ e. e ≢ error.BadCount) }
 {
-    let desk = desk_of::<N, R>(alloc, rt, topology, prefix, readers)?;
-    match viewers(alloc, &desk.from, prefix, readers) {
-        Ok(viewers) => Ok((desk, viewers)),
+    let writer = writer_of::<N, R>(alloc, rt, topology, prefix, readers)?;
+    match viewers(alloc, writer.factory(), prefix, readers) {
+        Ok(viewers) => Ok((writer, viewers)),
         Err(error) => {
-            desk.end(rt);
+            writer.take(rt);
             Err(error)
         }
     }
@@ -113,10 +123,9 @@ fn publisher_of<N: ViewNaming, R: Wait>(
     ensures err { IfErr result (λ e. e ≢ error.BadCount) }
 {
     let last = Changes::new(alloc)?;
-    let missed = Changes::new(alloc)?;
     let now = Changes::new(alloc)?;
-    let (desk, viewers) = desk_and_viewers::<N, R>(alloc, rt, topology, prefix, readers)?;
-    Ok((Publisher::new(desk, last, missed), viewers, now))
+    let (writer, viewers) = writer_and_viewers::<N, R>(alloc, rt, topology, prefix, readers)?;
+    Ok((Publisher::new(writer, last), viewers, now))
 }
 
 /// Drops a book and its log. No other place of this crate drops a book, since each is slow to prove.
@@ -124,12 +133,12 @@ fn close(_book: Book, _log: NewLog) {}
 
 impl<N: ViewNaming> Keeper<N> {
     /// Makes the keeper of a new book, and its viewers, which have seen no entry. `N` names the log, the nodes and the limit of
-    /// the history, up to 1,000,000 entries. A history at its limit takes no command. It takes the runtime because the end
-    /// of boards waits for readers, but new boards have none.
+    /// the history, up to 1,000,000 entries. A history at its limit takes no command. It takes the runtime because the writer
+    /// waits for readers of a board, but a new board has none.
     ///
     /// # Errors
     ///
-    /// `OpenError::OutOfMemory`, or `OpenError::NoReader` if there is no reader for a viewer.
+    /// `OpenError::OutOfMemory`, or `OpenError::NoReader` if `left_right` returns no reader.
     pub fn open<R: Wait>(
         alloc: Global,
         rt: &R,

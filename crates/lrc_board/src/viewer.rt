@@ -12,7 +12,7 @@ use crate::line::LogPrefix;
 use crate::log::begins;
 use crate::naming::ViewNaming;
 use crate::question::{LevelOf, LoadOf, Question, RiskOf};
-use crate::rule::BoardReader;
+use crate::rule::{BoardReader, Sees};
 use lrc_book::Level;
 use lrc_code::{NodeNo, StripeNo};
 use std::alloc::Global;
@@ -92,7 +92,7 @@ impl<N: ViewNaming> Viewer<N> {
         ensures same { OnErr result (self.new ≡ self.old) }
     {
         let reader = self.reader.take().unwrap();
-        match reader.enter() {
+        match reader.enter_as::<Sees<N>>() {
             Ok(reading) => {
                 let value = question.ask(reading.get());
                 let count = reading.get().count();

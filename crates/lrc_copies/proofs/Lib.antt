@@ -1,4 +1,0 @@
-mod Plans
-mod Readers
-pub mod SidesKept
-pub mod WriterSteps
