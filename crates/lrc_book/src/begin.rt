@@ -35,4 +35,22 @@ impl Book {
             base: Some(image),
         })
     }
+
+    /// Like `begin`, in a box.
+    ///
+    /// # Errors
+    ///
+    /// As `begin`.
+    pub fn begin_boxed(
+        alloc: Global,
+        topology: Topology,
+        image: Image,
+    ) -> Result<Box<Book>, BeginError>
+        ensures value { IfOk result (λ b. (b.value.nodes ≡ topology) × (b.value.limit ≡ 1000000) × (b.value.history ≡ []) × (b.value.base ≡ image_world image) × (b.value.before ≡ image.before)) }
+        ensures lawful { IsOk result → first_cause topology image ≡ None }
+        ensures refused { IfErr result (IsRefusedFor (first_cause topology image)) }
+    {
+        let book = Book::begin(alloc, topology, image)?;
+        Ok(Box::new(alloc, book)?)
+    }
 }

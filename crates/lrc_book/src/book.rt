@@ -72,6 +72,22 @@ impl Book {
         Book::with_limit(alloc, topology, HISTORY_LIMIT)
     }
 
+    /// Like `new`, in a box.
+    ///
+    /// # Errors
+    ///
+    /// As `new`.
+    pub fn boxed(alloc: Global, topology: Topology) -> Result<Box<Book>, Fault>
+        ensures value { IfOk result (λ b. (b.value.nodes ≡ topology) × (b.value.limit ≡ 1000000) × (b.value.history ≡ []) × (b.value.base ≡ first_world) × (b.value.before ≡ 0)) }
+        ensures err { IfErr result (λ e. e ≡ fault.OutOfMemory) }
+    {
+        let book = Book::new(alloc, topology)?;
+        Ok(Box::new(alloc, book)?)
+    }
+
+    /// Drops the book. A crate that drops one in line is proved over all that a book holds; this call costs it nothing.
+    pub fn close(self) {}
+
     /// A book over the nodes of a store, with an empty history of at most `limit` entries, which is 1,000,000 at most.
     ///
     /// # Errors
