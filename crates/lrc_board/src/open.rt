@@ -128,8 +128,10 @@ fn publisher_of<N: ViewNaming, R: Wait>(
     Ok((Publisher::new(writer, last), viewers, now))
 }
 
-/// Drops a book and its log. No other place of this crate drops a book, since each is slow to prove.
-fn close(_book: Book, _log: NewLog) {}
+/// Drops a book and its log.
+fn close(book: Book, _log: NewLog) {
+    book.close();
+}
 
 impl<N: ViewNaming> Keeper<N> {
     /// Makes the keeper of a new book, and its viewers, which have seen no entry. `N` names the log, the nodes and the limit of
