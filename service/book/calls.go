@@ -55,8 +55,8 @@ func (b *Book) Call(session uint8, command Command) (Entry, error) {
 	return entry, err
 }
 
-// CallChanges makes one command, and returns its entry and what it changed: a row for each fragment whose home or live lease is another
-// one after it, by stripe and fragment. What has no row is as it was.
+// CallChanges makes one command, and returns its entry, and a row for each fragment whose home or live lease is another
+// one after it, by stripe and fragment. Each other fragment has the home and the lease that it had.
 func (b *Book) CallChanges(session uint8, command Command) (Entry, []Change, error) {
 	var entry Entry
 	count := C.size_t(Fragments) // (only to fail a node and to tick can take more)

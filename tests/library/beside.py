@@ -5,7 +5,7 @@ Usage: tests/library/beside [--long] [FOLDER], where FOLDER has what examples/em
 Calls of all kinds are drawn by a fixed rule (tests/model/draws.py): 5,000 over twenty nodes, 1,000 over sixty nodes of uneven
 size, whose numbers are in no order, and 2,000 with a book that forgets its entries after each hundredth call. Before each
 call a peek returns its reply. After each tenth peek, and after each call, the book and the model are compared
-(tests/library/comparing.py): the reply and the entry; of each third call the rows of what it changed; the code, level, missing fragments, homes and leases of each stripe; the load
+(tests/library/comparing.py): the reply and the entry; of each third call the rows of the homes and leases that it changed; the code, level, missing fragments, homes and leases of each stripe; the load
 and mode of each node, and whether it is online; the stripes at risk, in the order of repair; the clock; and the image of the
 state. Then the commands are counted: each kind has to have been done and refused, and each refusal, repair and level of
 either code has to have occurred, each refusal of a fragment that the code of its stripe lacks, and ticks that end no lease,

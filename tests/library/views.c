@@ -1,10 +1,11 @@
 // Published books and their viewers, by lrc_embed.h. tests/library/views builds and runs it.
-// Usage: views statuses | full | closes | refused FIRST LAST | beside CALLS LOOKERS | times CALLS LOOKERS
+// Usage: views statuses | full | closes | ended ROUNDS | refused FIRST LAST | beside CALLS LOOKERS | times CALLS LOOKERS
 // It ends at the first thing that is not as wanted, with status 1.
 #define _POSIX_C_SOURCE 200809L
 #include "lrc_embed.h"
 
 #include <pthread.h>
+#include <sched.h>
 #include <stdatomic.h>
 #include <stdio.h>
 #include <stdlib.h>
@@ -15,6 +16,7 @@
 #define NODE "[[node]]\nnumber = %d\nfault = %d\nupgrade = %d\nslots = 40\n"
 #define STRIPES 60
 #define MOST_LOOKERS 64
+#define ENDING 4
 
 static char nodes[NODES * 64];
 static size_t nodes_length;
@@ -456,6 +458,46 @@ static void test_beside(int lookers) {
     printf("%d lookers, %s\n", lookers, looks >= (uint64_t)lookers ? "all as the book" : "none looked");
 }
 
+static atomic_int following;
+
+// Follows until the book is no longer published.
+static void *follow_to_end(void *given) {
+    looker *it = given;
+    uint32_t status = LRC_DONE;
+    atomic_fetch_add(&following, 1);
+    while (status != ENDED) {
+        status = follow(&it->viewer, &it->last);
+        WANT(status == LRC_DONE || status == ENDED);
+    }
+    return NULL;
+}
+
+// Viewers that are told the end have all calls: they follow while the last calls are made and the book is taken back.
+static void test_ended(long rounds) {
+    looker each[ENDING];
+    pthread_t threads[ENDING];
+    lrc_handle book = LRC_CLOSED;
+    open_book(&book);
+    for (long round = 0; round < rounds; round++) {
+        lrc_published it = LRC_NOT_PUBLISHED;
+        WANT(lrc_embed_publish(&book, &it) == LRC_DONE);
+        atomic_store(&following, 0);
+        for (int i = 0; i < ENDING; i++) {
+            each[i] = (looker){.viewer = viewer_of(&it)};
+            WANT(pthread_create(&threads[i], NULL, follow_to_end, &each[i]) == 0);
+        }
+        while (atomic_load(&following) < ENDING) sched_yield();
+        for (volatile long wait = 0; wait < round * 61 % 2000; wait++) {}
+        call_often(&it, 3);
+        WANT(lrc_embed_unpublish(&it, &book) == LRC_DONE);
+        for (int i = 0; i < ENDING; i++) {
+            WANT(pthread_join(threads[i], NULL) == 0 && each[i].last == place_of(&book));
+            WANT(lrc_embed_close_viewer(&each[i].viewer) == LRC_DONE);
+        }
+    }
+    WANT(lrc_embed_close(&book) == LRC_DONE);
+}
+
 static double look_ns(lrc_viewer *viewer, bool follows) {
     uint64_t begun = now_ns(), at = 0;
     for (int i = 0; i < 1000000; i++) {
@@ -492,6 +534,7 @@ int main(int count, char **words) {
     if (!strcmp(words[1], "statuses")) test_statuses();
     else if (!strcmp(words[1], "full")) test_full();
     else if (!strcmp(words[1], "closes")) test_closes();
+    else if (!strcmp(words[1], "ended") && count > 2) test_ended(atol(words[2]));
     else if (!strcmp(words[1], "refused") && count > 3) test_refused(atol(words[2]), atol(words[3]));
     else if (!strcmp(words[1], "beside") && count > 3) test_beside(atoi(words[3]));
     else if (!strcmp(words[1], "times") && count > 3) times(atoi(words[3]));

@@ -5,10 +5,12 @@ Usage: tests/library/views [--long] [FOLDER], where FOLDER has what examples/emb
 - Beside the model of tests/model/rules.py: a published book makes 600 drawn calls. Viewers that are made at several places follow
   it after each call, or now and then; then each reports all that the model does, the place too. The published book and its viewers
   forget in between. A viewer that has not followed yet is found out, so a body that does nothing would be.
-- From C (tests/library/views.c): each status, with a full history, a full feed and numbers at their ends; closes in each order; memory refused from each request on; and eight threads that
-  look while another one calls, each with a viewer of its own: each look shows what the book showed at its place, no place is less
-  than the one before, and the last look is at the end. This is run plain and with the thread, the address and the
-  undefined-behaviour sanitizers. They see the program, and of the library what it allocates.
+- From C (tests/library/views.c): each status, with a full history, a full feed and numbers at their ends; closes in each order;
+  viewers that follow while the last calls are made and the book is taken back, which have all calls when they are told; memory
+  refused from each request on; and eight threads that look while another one calls, each with a viewer of its own: each look
+  shows what the book showed at its place, no place is less than the one before, and the last look is at the end. This is run
+  plain and with the thread, the address and the undefined-behaviour sanitizers. They see the program, and of the library what it
+  allocates.
 - `bench/views` ends well.
 
 With --long these are 5,000 calls, and 100 times as many beside the lookers. The last line is 'N passed, M failed'."""
@@ -119,7 +121,7 @@ def is_there(room, flag):
     return made.returncode == 0 and subprocess.run([f"{room}/none"], capture_output=True, check=False).returncode == 0
 
 
-def test_program(count, folder, room, calls):
+def test_program(count, folder, room, calls, rounds):
     for flag in [PLAIN, *SANITIZERS]:
         program = compiled(count, folder, room, flag)
         if program is None:
@@ -127,6 +129,7 @@ def test_program(count, folder, room, calls):
         count.run(f"statuses {flag}", program, "statuses")
         count.run(f"full {flag}", program, "full")
         count.run(f"closes {flag}", program, "closes")
+        count.run(f"ended {flag}", program, "ended", str(rounds if flag == PLAIN else rounds // 10))
         told = count.run(f"refused {flag}", program, "refused", "1", "60")
         count.check(f"refused {flag}: {told}", told and int(told.split(" ")[0]) > 60)
         beside = count.run(f"beside {flag}", program, "beside", str(calls if flag == PLAIN else calls // 10), str(LOOKERS))
@@ -144,7 +147,7 @@ def main(words):
                 return count.report()
         library = ctypes.CDLL(os.path.join(os.path.abspath(folder), "liblrc_embed.so"))
         test_model(count, library, 5000 if is_long else 600)
-        test_program(count, os.path.abspath(folder), room, 500_000 if is_long else 5000)
+        test_program(count, os.path.abspath(folder), room, 500_000 if is_long else 5000, 2000 if is_long else 100)
         table = count.run("bench/views", sys.executable, f"{TOP}/bench/views", "--quick", folder) or ""
         count.check(f"bench/views: {table}", [line.split(" ")[1] for line in table.splitlines()[2:]] == ["0", "1", "2"])
     return count.report()

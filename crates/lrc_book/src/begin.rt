@@ -46,7 +46,8 @@ impl Book {
         topology: Topology,
         image: Image,
     ) -> Result<Box<Book>, BeginError>
-        ensures value { IfOk result (λ b. (b.value.nodes ≡ topology) × (b.value.limit ≡ 1000000) × (b.value.history ≡ []) × (b.value.base ≡ image_world image) × (b.value.before ≡ image.before)) }
+        ensures value { IfOk result (λ b. (b.value.nodes ≡ topology) × (b.value.limit ≡ 1000000)
+            × (b.value.history ≡ []) × (b.value.base ≡ image_world image) × (b.value.before ≡ image.before)) }
         ensures lawful { IsOk result → first_cause topology image ≡ None }
         ensures refused { IfErr result (IsRefusedFor (first_cause topology image)) }
     {

@@ -78,7 +78,8 @@ impl Book {
     ///
     /// As `new`.
     pub fn boxed(alloc: Global, topology: Topology) -> Result<Box<Book>, Fault>
-        ensures value { IfOk result (λ b. (b.value.nodes ≡ topology) × (b.value.limit ≡ 1000000) × (b.value.history ≡ []) × (b.value.base ≡ first_world) × (b.value.before ≡ 0)) }
+        ensures value { IfOk result (λ b. (b.value.nodes ≡ topology) × (b.value.limit ≡ 1000000)
+            × (b.value.history ≡ []) × (b.value.base ≡ first_world) × (b.value.before ≡ 0)) }
         ensures err { IfErr result (λ e. e ≡ fault.OutOfMemory) }
     {
         let book = Book::new(alloc, topology)?;

@@ -5,8 +5,8 @@ use crate::Former;
 use lrc_records::{LrcHome, LrcLease};
 use lrc_rules::{Lease, Seat};
 
-/// A fragment whose home or lease a call changed: both before the call, and after it. `was_leased` and `is_leased` are
-/// 1 where it had or has a lease; else they are 0, and so is all of the lease.
+/// A fragment whose home or lease is another one after a call: both before the call, and after it. `was_leased` and
+/// `is_leased` are 1 where it had or has a lease; else they are 0, and so is all of the lease.
 #[repr(C)]
 #[derive(Clone, Copy)]
 pub struct LrcChange {

@@ -1,4 +1,5 @@
-//! The fragments that an entry changes, looked up before it is made, and their rows, written after it.
+//! The fragments whose home or lease is another one after an entry, looked up before it is made, and their rows,
+//! written after it.
 
 ghost use Rattle.std.specs.Prelude.{◌≡◌, ◌-◌, ◌<◌, ◌≤◌, if◌then◌else◌, Some, None, IfOk, IfErr, map, length};
 ghost use Rattle.std.specs.List.{filter_map, range_with_len};
@@ -15,8 +16,8 @@ use lrc_book::{Book, Entry, Seat};
 use lrc_code::{FRAGMENTS, Fault, Fragment, StripeNo};
 use std::alloc::Global;
 
-/// The fragments whose home or lease the next entry of the book changes, as they are now, in rising order of stripe and
-/// fragment.
+/// The fragments whose home or lease is another one after the next entry of the book, as they are now, in rising order
+/// of stripe and fragment.
 ///
 /// # Errors
 ///
@@ -33,7 +34,7 @@ pub fn changed_by(alloc: Global, book: &Book, entry: &Entry) -> Result<Vec<Forme
     touched_from(alloc, book, entry, start, end)
 }
 
-/// The fragments that the entry changes, of those at the places from `start` to `end`.
+/// The fragments whose home or lease is another one after the entry, of those at the places from `start` to `end`.
 fn touched_from(
     alloc: Global,
     book: &Book,
@@ -57,7 +58,7 @@ fn touched_from(
     Ok(rows)
 }
 
-/// The fragment at a place, if the entry changes it.
+/// The fragment at a place, if its home or lease is another one after the entry.
 fn touched_at(book: &Book, entry: &Entry, place: usize) -> Option<Former>
     requires seated { AreSeated book.now.nodes (state_of book.now) }
     ensures { place < 65536 → result ≡ touched_at (state_of book.now) entry.now.command entry.now.reply place }

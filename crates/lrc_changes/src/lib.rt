@@ -1,4 +1,4 @@
-//! What an entry changes: the fragments whose home or lease is another one after it, each as a row.
+//! The fragments whose home or lease is another one after an entry, each as a row.
 #![tactic(auto)]
 
 mod change;

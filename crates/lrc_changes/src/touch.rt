@@ -1,4 +1,4 @@
-//! Which fragments an entry changes, by its command and its reply.
+//! Which fragments have another home or lease after an entry, by its command and its reply.
 
 ghost use Rattle.std.specs.Prelude.{◌≡◌};
 ghost use Rattle.lrc_changes.specs.Touched.{touches, is_placed_wide, is_placed_narrow, is_dropped, is_let_go};
@@ -19,7 +19,7 @@ pub struct Former {
     pub lease: Option<Lease>,
 }
 
-/// Whether the entry changes the fragment.
+/// Whether the home or lease of the fragment is another one after the entry.
 pub(crate) fn touches(entry: &Entry, former: &Former) -> bool
     ensures { result ≡ touches entry.now.command entry.now.reply former.now }
 {

@@ -414,8 +414,8 @@ typedef struct {
     uint8_t coefficients[LRC_FRAGMENTS]; // by fragment; 0 where the stripe has no such fragment
 } lrc_recipe;
 
-// A fragment whose home or lease a call changed: both before the call, and after it. Where it had or has no lease, all of the
-// lease is 0.
+// A fragment whose home or lease is another one after a call: both before the call, and after it. Where it had or has no lease,
+// all of the lease is 0.
 typedef struct {
     uint16_t stripe;
     uint8_t fragment;
@@ -599,8 +599,8 @@ uint32_t lrc_embed_open_image(lrc_handle *handle, const uint8_t *nodes, size_t n
 uint32_t lrc_embed_call(lrc_handle *handle, uint8_t session, const lrc_command *command, lrc_reply *reply);
 // The same, with the whole entry as its result, as lrc_embed_entry would return it.
 uint32_t lrc_embed_call_entry(lrc_handle *handle, uint8_t session, const lrc_command *command, lrc_entry *entry);
-// The same, with what the call changed: a row for each fragment whose home or live lease is another one after it, or is there
-// only before or only after it, in rising order of stripe and fragment. What has no row is as it was. DONE, with `*count` rows;
+// The same, with a row for each fragment whose home or live lease is another one after the call, or is there only before or only
+// after it, in rising order of stripe and fragment. Each other fragment has the home and the lease that it had. DONE, with `*count` rows;
 // or SHORT if there are more than `length`: then the call is not made, and only `count` is written, the rows that it needs. Only
 // LRC_FAIL and LRC_TICK can need more than LRC_FRAGMENTS.
 uint32_t lrc_embed_call_changes(lrc_handle *handle, uint8_t session, const lrc_command *command, lrc_entry *entry,

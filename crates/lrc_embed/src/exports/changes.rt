@@ -1,4 +1,4 @@
-//! A call that also writes what it changed.
+//! A call that also writes the fragments whose home or lease is another one after it.
 
 ghost use Rattle.std.specs.Prelude.{◌≡◌, ◌≢◌, ◌↔◌, ◌∷◌, [], Some, None, length};
 ghost use Rattle.lrc_book.specs.Books.{state_of};
@@ -60,7 +60,7 @@ pub extern "C" fn lrc_embed_call_changes(
     status
 }
 
-/// Makes one step, and writes its entry and the rows of what it changed.
+/// Makes one step, and writes its entry and the rows of the fragments whose home or lease is another one.
 fn step_with_changes(
     alloc: Global,
     book: &mut Book,

@@ -535,8 +535,8 @@ pub struct lrc_recipe {
     pub coefficients: [u8; LRC_FRAGMENTS],
 }
 
-/// A fragment whose home or lease a call changed: both before the call, and after it. Where it had or has no lease, all of the
-/// lease is 0.
+/// A fragment whose home or lease is another one after a call: both before the call, and after it. Where it had or has no lease,
+/// all of the lease is 0.
 #[repr(C)]
 #[derive(Clone, Copy, Debug, Default, PartialEq, Eq, Hash)]
 pub struct lrc_change {
@@ -721,10 +721,10 @@ extern "C" {
     pub fn lrc_embed_call(handle: *mut lrc_handle, session: u8, command: *const lrc_command, reply: *mut lrc_reply) -> u32;
     /// The same, with the whole entry as its result, as lrc_embed_entry would return it.
     pub fn lrc_embed_call_entry(handle: *mut lrc_handle, session: u8, command: *const lrc_command, entry: *mut lrc_entry) -> u32;
-    /// The same, with what the call changed: a row for each fragment whose home or live lease is another one after it, or is there
-    /// only before or only after it, in rising order of stripe and fragment. What has no row is as it was. DONE, with `*count`
-    /// rows; or SHORT if there are more than `length`: then the call is not made, and only `count` is written, the rows that it
-    /// needs. Only LRC_FAIL and LRC_TICK can need more than LRC_FRAGMENTS.
+    /// The same, with a row for each fragment whose home or live lease is another one after the call, or is there only before or
+    /// only after it, in rising order of stripe and fragment. Each other fragment has the home and the lease that it had. DONE,
+    /// with `*count` rows; or SHORT if there are more than `length`: then the call is not made, and only `count` is written, the
+    /// rows that it needs. Only LRC_FAIL and LRC_TICK can need more than LRC_FRAGMENTS.
     pub fn lrc_embed_call_changes(
         handle: *mut lrc_handle,
         session: u8,
