@@ -1,8 +1,5 @@
-ghost use Rattle.std.specs.Prelude.{◌≡◌, ◌<◌, ◌^◌, [], None, IfOk, IfErr, IsOk};
-ghost use Rattle.lrc_images.specs.Images.{image_world};
-ghost use Rattle.lrc_images.specs.Causes.{first_cause};
+ghost use Rattle.std.specs.Prelude.{◌≡◌, ◌<◌, ◌^◌, IfOk, IfErr};
 ghost use Rattle.lrc_images.specs.Cuts.{row_count};
-ghost use Rattle.lrc_restore.specs.Refused.{IsRefusedFor};
 ghost use Rattle.lrc_image_text.specs.Texts.{row_line};
 ghost use Rattle.lrc_openings.specs.Begun.{IsBegun, IsBegunOver};
 ghost use Rattle.lrc_openings.specs.Unopened.{IsUnopened, IsUnbegun};
@@ -34,24 +31,13 @@ pub fn begin_over(alloc: Global, topology: Topology, image: Image) -> Result<Box
     ensures refused { IfErr result (IsUnbegun topology image) }
 {
     let upgrading = upgrading_in(&image);
-    match begin_boxed(alloc, topology, image) {
+    match Book::begin_boxed(alloc, topology, image) {
         Ok(book) => Ok(book),
         Err(BeginError::Refused(position, cause)) => {
             Err(OpenError::Line(line_of(upgrading, position, cause), cause))
         }
         Err(BeginError::OutOfMemory) => Err(OpenError::OutOfMemory),
     }
-}
-
-/// Begins a book in an image, in a box.
-fn begin_boxed(alloc: Global, topology: Topology, image: Image) -> Result<Box<Book>, BeginError>
-    ensures value { IfOk result (λ b. (b.value.nodes ≡ topology) × (b.value.limit ≡ 1000000)
-        × (b.value.history ≡ []) × (b.value.base ≡ image_world image) × (b.value.before ≡ image.before)) }
-    ensures lawful { IsOk result → first_cause topology image ≡ None }
-    ensures refused { IfErr result (IsRefusedFor (first_cause topology image)) }
-{
-    let book = Book::begin(alloc, topology, image)?;
-    Ok(Box::new(alloc, book)?)
 }
 
 /// The upgrade domain that is upgrading in an image. The rows of an image in memory are few.
