@@ -3,7 +3,7 @@ use std::ffi::c_void;
 use std::fmt::{self, Display, Formatter};
 use std::process::ExitCode;
 
-const VERSION: u32 = 7;
+const VERSION: u32 = 8;
 const DONE: u32 = 0;
 const DIFFERENT: u32 = 8;
 const GRANTED: u8 = 3;

@@ -5,7 +5,7 @@ from ctypes import c_bool, c_size_t, c_uint8, c_uint16, c_uint32, c_uint64, c_vo
 from enum import IntEnum
 from operator import index as whole
 
-VERSION, RULES_VERSION, STRIPES, FRAGMENTS, NARROW_FRAGMENTS, SESSIONS, HISTORY_LIMIT = 7, 1, 4096, 16, 10, 8, 1_000_000
+VERSION, RULES_VERSION, STRIPES, FRAGMENTS, NARROW_FRAGMENTS, SESSIONS, HISTORY_LIMIT = 8, 1, 4096, 16, 10, 8, 1_000_000
 NODES, SLOTS, IMAGE_MOST, FEED_LIMIT = 512, 256, 3855418, 1_048_576
 IMAGE_ROOM = 1 << 20  # room for the image of a store of 4,096 stripes, but for a few: to ask how much it needs costs as much as it does
 TABLE_ROOM = 1 << 20  # room for the table of as many stripes, for the same reason

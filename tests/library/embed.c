@@ -665,7 +665,6 @@ static void forecasts(void) {
                                .after = after.levels[s]};
             if (row.code == 0 || row.after.kind == LRC_WHOLE) continue;
             row.newly_missing = after.missing[s] & (uint16_t)~now.missing[s];
-            // (none of these nodes is down or gone yet, so each seat on them is newly away)
             row.is_harmed = row.after.kind != LRC_AT_RISK && (row.before.kind == LRC_WHOLE || row.before.kind == LRC_AT_RISK ||
                                                               has_seat_on(&now, s, stopped, n));
             WANT(found < count && memcmp(&row, &rows[found++], sizeof row) == 0);
@@ -1216,18 +1215,18 @@ static const char *image_of_waiting =
     "stripe6 1 0:0 1:0 2:0 3:0 4:0 5:0 6:0 7:0 8:0 9:0\nstripe6 2 - - - 3:1 4:1 5:1 - 7:1 8:1 9:1\n"
     "granted 2 1 0 0 0 0 0 0 0 0 0 0 0 0 0 0 0\nlease 2 0 1 15:0 3\nend\n";
 
-// A stripe that is not recoverable anyway is harmed where a seat of it goes: with nodes that stop a home or a target on one that
-// is not down yet, though it be offline by its upgrade; with nodes that are lost a home or a target on any.
+// A stripe that is not recoverable anyway is harmed where a seat of it, a home or a target, is on one of the nodes, be that node online
+// or down, or offline by its upgrade.
 static void forecasts_of_waiting(void) {
     static const struct {
         uint8_t outage;
         uint16_t nodes[2];
         uint8_t is_harmed[2], leases_ended;
     } asked[] = {
-        {LRC_STOP, {0, 0}, {1, 0}, 0},   {LRC_STOP, {1, 10}, {0, 0}, 0},  {LRC_STOP, {15, 2}, {0, 1}, 0},
-        {LRC_STOP, {0, 15}, {1, 1}, 0},  {LRC_STOP, {6, 19}, {0, 0}, 0},  {LRC_LOSE, {0, 0}, {1, 0}, 0},
-        {LRC_LOSE, {10, 19}, {0, 0}, 0}, {LRC_LOSE, {6, 10}, {1, 0}, 0},  {LRC_LOSE, {15, 11}, {0, 1}, 1},
-        {LRC_LOSE, {1, 15}, {1, 1}, 1},
+        {LRC_STOP, {0, 0}, {1, 0}, 0},   {LRC_STOP, {1, 10}, {1, 0}, 0},  {LRC_STOP, {15, 2}, {1, 1}, 0},
+        {LRC_STOP, {0, 15}, {1, 1}, 0},  {LRC_STOP, {6, 19}, {1, 0}, 0},  {LRC_STOP, {10, 19}, {0, 0}, 0},
+        {LRC_STOP, {15, 11}, {0, 1}, 0}, {LRC_LOSE, {0, 0}, {1, 0}, 0},   {LRC_LOSE, {10, 19}, {0, 0}, 0},
+        {LRC_LOSE, {6, 10}, {1, 0}, 0},  {LRC_LOSE, {15, 11}, {0, 1}, 1}, {LRC_LOSE, {1, 15}, {1, 1}, 1},
     };
     begin_in(image_of_waiting);
     for (size_t i = 0; i < sizeof asked / sizeof *asked; i++) {

@@ -45,7 +45,7 @@ EMBED, INCLUDE = f"{EXAMPLES}/embed", f"{TOP}/crates/lrc_embed/include"
 CXX = os.environ.get("CXX", "c++")
 STRICT = ["-Wall", "-Wextra", "-Werror"]
 # The version of the header, and a sum of what it declares.
-INTERFACE = "7", "89eb34acbf93"
+INTERFACE = "8", "c907aa9777d8"
 COUNTED = ["-Wl,--wrap=malloc,--wrap=realloc,--wrap=free"]
 
 

@@ -241,8 +241,7 @@ def test(count, shared):
 
 def forecast_in_model(store, outage, nodes):
     """The table of a forecast, and whether no stripe is harmed."""
-    word = "may-stop" if outage == lrc_embed.Outage.STOP else "may-lose"
-    table, harms = shown.outlook(store, walked.after_outage(store, outage, nodes), shown.newly_away(word, store, nodes))
+    table, harms = shown.outlook(store, walked.after_outage(store, outage, nodes), nodes)
     return table, not harms
 
 

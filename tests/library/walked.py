@@ -94,13 +94,6 @@ def after_outage(store, outage, nodes):
     return after
 
 
-def hit_stripes(store, outage, nodes):
-    """The stripes with a home or a target that goes with the outage: on a node that is lost, or that stops and would be there
-    without, were it not for an upgrade."""
-    going = {node for node in nodes if outage == lrc_embed.Outage.LOSE or store.mode[node] != "gone" and node not in store.down}
-    return {stripe for (stripe, _), (node, _) in store.held() if node in going}
-
-
 def outlook_in_model(store, after, stripe, is_hit, ended):
     """The row of a stripe of which so many leases end, from one state to another: also whether it is harmed, which is where it
     is not recoverable then, and was so before, or is hit."""
@@ -111,16 +104,18 @@ def outlook_in_model(store, after, stripe, is_hit, ended):
     return stripe, store.stripes[stripe].name, missing, newly, is_harmed, ended, before, then
 
 
-def outlook(store, after, outage, nodes):
-    """The rows of a forecast for what is after an outage of these nodes, and whether no stripe is harmed."""
-    ended, hit = Counter(key[0] for key in store.leases.keys() - after.leases.keys()), hit_stripes(store, outage, nodes)
+def outlook(store, after, nodes):
+    """The rows of a forecast for what is after an outage of these nodes, and whether no stripe is harmed. A stripe is hit if a home
+    or a target of it is on one of them."""
+    ended = Counter(key[0] for key in store.leases.keys() - after.leases.keys())
+    hit = {stripe for (stripe, _), (node, _) in store.held() if node in nodes}
     rows = [outlook_in_model(store, after, stripe, stripe in hit, ended[stripe]) for stripe in sorted(store.stripes)
             if after.level(stripe)]
     return rows, not any(is_harmed for _, _, _, _, is_harmed, *_ in rows)
 
 
 def forecast_in_model(store, outage, nodes):
-    return outlook(store, after_outage(store, outage, nodes), outage, nodes)
+    return outlook(store, after_outage(store, outage, nodes), nodes)
 
 
 def forecast_in_book(book, outage, nodes):

@@ -1,8 +1,9 @@
 """What a forecast means, held to the model in tests/model/rules.py: a stripe that an outage does not harm is, after any returns,
-recoverable with the outage exactly where it is recoverable without it. Returns are `up`, `upgraded` and `done`.
+recoverable with the outage exactly where it is recoverable without it. Returns are `up`, `upgraded` and `done`. With the outage its
+nodes stay away: an `up` of one of them is left out.
 
-Of a drawn store there are two copies, of which one gets the reports of a drawn outage; then both get the same drawn returns.
-Among these are some that are refused, and some that one copy takes and the other refuses."""
+Of a drawn store there are two copies, of which one gets the reports of a drawn outage; then both get the same drawn returns, but
+for those that are left out. Among these are some that are refused, and some that one copy takes and the other refuses."""
 import copy
 import time
 from collections import Counter
@@ -19,17 +20,17 @@ SHARE = 10  # of so many states one is asked of the program
 WEIGHTS = {"place": 2, "place6": 2, "lease": 8, "next": 6, "done": 2, "fail": 3, "down": 7, "up": 1, "drain": 1, "join": 2,
            "upgrade": 4}
 
-# Each way in which a seat goes: the outage, what the seat is, and how its node was before.
-WAYS = {"may-stop": ("online", "upgrading"), "may-lose": ("online", "upgrading", "down")}
-SEATS = [f"{word} {kind} {standing}" for word, standings in WAYS.items() for kind in ("home", "target") for standing in standings]
+# Each ground of harm that is a seat: the outage, what the seat is, and how its node was before.
+OUTAGES = ("may-stop", "may-lose")
+SEATS = [f"{word} {kind} {standing}" for word in OUTAGES for kind in ("home", "target") for standing in ("online", "upgrading", "down")]
 
 # What has to be met, each at least so often, or the comparison could not fail: each way of harm, also alone and shown by a return;
-# stripes that come back with an outage too; and returns that both take, one, or none.
+# stripes that come back with an outage too; and returns that both take, one, or none, or that are left out.
 LEAST = 4
 WANTED = [
     "harmed, and was recoverable", "not harmed, and comes back", *(f"harmed, {seat}" for seat in SEATS),
-    *(f"{seat} alone, shown by a return" for seat in SEATS), "up changed changed", "up changed refused", "up refused changed",
-    "up refused refused", "upgraded changed changed", "upgraded refused refused", "done ended ended", "done ended refused",
+    *(f"{seat} alone, shown by a return" for seat in SEATS), "up changed changed", "up changed left",
+    "up refused refused", "up refused left", "upgraded changed changed", "upgraded refused refused", "done ended ended", "done ended refused",
     "done refused refused",
 ]
 
@@ -79,7 +80,7 @@ def drawn_states(seed):
 def drawn_outage(store, row):
     """`may-stop` or `may-lose`, and nodes: one of a target, where a stripe that is not recoverable has one; or up to three, most
     often of one stripe, which is one that is not recoverable where there is one."""
-    word, kind, gone, nodes = one_of(row, list(WAYS)), next(row) % 8, beyond(store), list(store.nodes)
+    word, kind, gone, nodes = one_of(row, OUTAGES), next(row) % 8, beyond(store), list(store.nodes)
     targets = [lease.target[0] for (stripe, _), lease in sorted(store.leases.items()) if stripe in gone]
     if kind < 4 and targets:
         return word, [one_of(row, targets)]
@@ -119,17 +120,17 @@ def twin(store):
     return same
 
 
-def ways_gone(word, store, stripe, away):
-    """The ways in which seats of a stripe go, where all seats on these nodes do."""
+def seats_on(word, store, stripe, named):
+    """The grounds that an outage of these nodes has in the seats of a stripe."""
     kinds = [("home", node) for (of, _), (node, _) in store.homes.items() if of == stripe]
     kinds += [("target", lease.target[0]) for (of, _), lease in store.leases.items() if of == stripe]
     for kind, node in kinds:
-        if node in away:
+        if node in named:
             standing = "upgrading" if store.nodes[node].upgrade == store.upgrading else "online"
             yield f"{word} {kind} {'down' if node in store.down else standing}"
 
 
-def kinds_of(harm, ways, shown_at, comes_back):
+def kinds_of(harm, seats, shown_at, comes_back):
     """What is met of a stripe: whether it is harmed and how, and after how many returns that is shown, if at all."""
     if not harm:
         yield "not harmed"
@@ -139,25 +140,27 @@ def kinds_of(harm, ways, shown_at, comes_back):
     yield "harmed"
     if "recoverable" in harm:
         yield "harmed, and was recoverable"
-    yield from (f"harmed, {way}" for way in ways)
+    yield from (f"harmed, {seat}" for seat in seats)
     if shown_at is not None:
         yield "harmed, and it is shown"
-    if shown_at and len(ways) == 1:
-        yield f"{ways.pop()} alone, shown by a return"
+    if shown_at and len(seats) == 1:
+        yield f"{seats.pop()} alone, shown by a return"
 
 
 def play(store, word, named, row):
-    """Plays drawn returns with an outage and without. Returns how stripes differ that are not harmed, and what was met."""
+    """Plays drawn returns without an outage, and those of other nodes with it. Returns how stripes differ that are not harmed, and
+    what was met."""
     later, without, met, wrong, calls = twin(store), twin(store), Counter(), [], []
     for node in named:
         later.call(1, f"{shown.REPORTS[word]} {node}")
-    away = shown.newly_away(word, store, named)
-    harms = {stripe: shown.harm_of(store, later, stripe, away) for stripe in sorted(store.stripes)}
+    stay_away = {f"up {node}" for node in named}
+    harms = {stripe: shown.harm_of(store, later, stripe, named) for stripe in sorted(store.stripes)}
     pairs = [(beyond(later), beyond(without))]
     for known in all_returns(store, row) if next(row) % 2 else [None] * RETURNS:
         session, line = known or drawn_return(without, later, row)
-        replies = [each.call(session, line).split()[0] for each in (without, later)]
-        met[" ".join([line.split()[0], *replies])] += 1
+        reply = without.call(session, line).split()[0]
+        reply_later = "left" if line in stay_away else later.call(session, line).split()[0]
+        met[" ".join([line.split()[0], reply, reply_later])] += 1
         calls.append(f"{line} by {session}")
         pairs.append((beyond(later), beyond(without)))
     for stripe, harm in harms.items():
@@ -165,7 +168,7 @@ def play(store, word, named, row):
         if shown_at is not None and not harm:
             wrong.append(f"{word} {named} does not harm stripe {stripe}, but makes a difference after {calls[:shown_at]}")
         comes_back = stripe in pairs[0][0] and stripe not in pairs[-1][0]
-        met.update(kinds_of(harm, set(ways_gone(word, store, stripe, away)), shown_at, comes_back))
+        met.update(kinds_of(harm, set(seats_on(word, store, stripe, named)), shown_at, comes_back))
     return wrong, met
 
 

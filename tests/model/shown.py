@@ -310,21 +310,15 @@ def nodes_of(store, words):
     return nodes
 
 
-def newly_away(word, store, nodes):
-    """The nodes of which each seat goes with the outage: those that are lost, or that stop and were neither gone nor down. A node
-    that is offline because its domain upgrades is among them: it would be back with its domain."""
-    return {node for node in nodes if word == "may-lose" or not store.is_away(node)}
-
-
-def harm_of(store, later, stripe, away):
-    """Why a stripe is harmed from one state to the other, where the seats on these nodes are newly away: none where it is
-    recoverable then; else some of that it was so, a home that goes, and a target that goes."""
+def harm_of(store, later, stripe, nodes):
+    """Why a stripe is harmed from one state to the other by an outage of these nodes: none where it is recoverable then; else some of
+    that it was so, a home on one of them, and a target on one."""
     if later.can_recover(stripe):
         return []
     keys = [(stripe, fragment) for fragment in store.fragments(stripe)]
     homes = {store.homes[key][0] for key in keys if key in store.homes}
     targets = {store.leases[key].target[0] for key in keys if key in store.leases}
-    harm = {"recoverable": store.can_recover(stripe), "home": homes & away, "target": targets & away}
+    harm = {"recoverable": store.can_recover(stripe), "home": homes & set(nodes), "target": targets & set(nodes)}
     return [word for word, is_met in harm.items() if is_met]
 
 
@@ -341,11 +335,11 @@ def after_reports(word, store, nodes):
     return later
 
 
-def outlook(store, later, away):
-    """The table of the stripes that are not whole later, where the seats on these nodes are newly away, and why each is harmed."""
+def outlook(store, later, nodes):
+    """The table of the stripes that are not whole later, after an outage of these nodes, and why each is harmed."""
     rows, harms, leases = [], [], ended(store, later)
     for stripe in sorted(store.stripes):
-        before, after, harm = level_of(store, stripe), level_of(later, stripe), harm_of(store, later, stripe, away)
+        before, after, harm = level_of(store, stripe), level_of(later, stripe), harm_of(store, later, stripe, nodes)
         if after[0] != "whole":
             fields = store.stripes[stripe].name, *before, *after, *mask(later.missing(stripe))
             rows.append([stripe, *fields, leases[stripe], yes(harm)])
@@ -355,4 +349,4 @@ def outlook(store, later, away):
 
 def forecast(word, store, nodes):
     """The outlook after a report of each node."""
-    return outlook(store, after_reports(word, store, nodes), newly_away(word, store, nodes))
+    return outlook(store, after_reports(word, store, nodes), nodes)

@@ -368,7 +368,7 @@ def tables():
 @cache
 def outlooks():
     """Of each forecast the table, and why stripes are harmed."""
-    return [shown.outlook(store, after, shown.newly_away(word, store, nodes)) for store, _, word, _, nodes, _, after in forecasts()]
+    return [shown.outlook(store, after, nodes) for store, _, _, _, nodes, _, after in forecasts()]
 
 
 def test_tables(count, program):
@@ -402,7 +402,7 @@ def test_walks(count, shared):
 def test_book_forecasts(count, shared):
     for store, image, word, _, nodes, outage, after in forecasts():
         found = of_book(shared, store, image, lambda book, asked=(outage, nodes): walked.forecast_in_book(book, *asked))
-        right = walked.outlook(store, after, outage, nodes)
+        right = walked.outlook(store, after, nodes)
         count.check(f"the library, {word} of {len(nodes)} nodes: {str(found)[:80]}", found == right)
 
 

@@ -9,9 +9,9 @@ The seed, by default that of the hour, is printed. It is that of some of the sto
 - The same input, and what would become of each stripe if drawn nodes, and nodes of drawn domains, were stopped, or lost: the
   table, and status 4 where a stripe is harmed. The model makes the reports and compares. Stripes that are harmed by no
   more than a home have to be among them.
-- What a forecast means, by the model: 3,300 drawn states, of which each gets drawn returns with a drawn outage and without. A
-  stripe that is not harmed has to be recoverable in both or in neither, after each return. Of each tenth state the program has
-  to print the forecast, with --quick of none.
+- What a forecast means, by the model: 3,300 drawn states, of which each gets drawn returns with a drawn outage and without. With
+  it each `up` of one of its nodes is left out. A stripe that is not harmed has to be recoverable in both or in neither, after each
+  return. Of each tenth state the program has to print the forecast, with --quick of none.
 - Input that `run` or `resume` refuses is refused with the same status, with nothing on standard output, and on standard error
   with the line that they print, behind the words that docs/FORMATS.md has for it; `image` refuses it so too. Behind an image
   `check` refuses it, with the line on standard output.
@@ -132,7 +132,8 @@ def drawn_bundle(seed):
 
 
 # Where a stripe that is not recoverable anyway is harmed by no more than a home or a target: its example, the outage, and which.
-HARMS = [("stop_keeps_a_stripe_away", "may-stop", "8 9", "home"), ("stop_keeps_a_stripe_away", "may-stop", "0", "home"),
+HARMS = [("four_nodes_down", "may-stop", "0 1 2 6", "home"), ("four_nodes_down", "may-stop", "8", "home"),
+         ("stop_keeps_a_stripe_away", "may-stop", "8 9", "home"), ("stop_keeps_a_stripe_away", "may-stop", "0", "home"),
          ("lost_stripe_waits_for_nodes", "may-lose", "3 4", "home"), ("lease_brings_a_stripe_back", "may-stop", "10", "target"),
          ("lease_brings_a_stripe_back", "may-lose", "10", "target")]
 

@@ -39,7 +39,7 @@ extern "C" {
 // The version of the interface, which rises with every change of what this header declares: with each function, struct, field
 // and number that is new or means something else. lrc_embed_version() returns that of the library. Compare them at the start,
 // and go on only if they are the same. An lrc_entry has one layout in all versions, so that saved ones stay readable.
-#define LRC_EMBED_VERSION 7
+#define LRC_EMBED_VERSION 8
 
 // The version of the rules: of what each command returns and changes. lrc_embed_rules_version() returns that of the library.
 // A log replays alike in all libraries of one version of the rules. In those of another one a reply may differ, and an image
@@ -396,8 +396,7 @@ typedef struct {
     uint16_t newly_missing; // those of them that are not missing now
     uint8_t code;           // an lrc_code
     uint8_t is_harmed;      // 0 or 1: it is unavailable or lost then; and it is neither now, or a home of it, or the target of a
-                            // live lease, goes: with LRC_LOSE it is on one of the nodes, with LRC_STOP on one of those that are
-                            // neither down nor gone now, whichever domain upgrades
+                            // live lease, is on one of the nodes
     uint8_t leases_ended;   // how many leases of it end by the outage
     uint8_t reserved[3];
     lrc_level before; // its level now
@@ -711,10 +710,10 @@ uint32_t lrc_embed_entries(lrc_handle *handle, uint64_t place, lrc_entry *rows, 
 
 // What would become of the stripes if all these nodes stopped at once, or were lost: `outage` is an lrc_outage. The rows are
 // the stripes that would not be whole then, in rising order, also those that are not whole now. `*is_safe` is 1 if no stripe
-// is harmed, else 0. So it is 0 too where a stripe that is unavailable or lost now would lose a home or the target of a lease. A
-// stripe that is not harmed is, after any LRC_UP, LRC_UPGRADED and LRC_REPORT that follow, recoverable with the outage exactly if
-// it is without; other calls that follow are left out. A node that is down or gone changes nothing where it stops, but one that
-// is offline only by an upgrade does; where a node is lost, its homes are. Nothing changes. DONE, IS_CLOSED, OUT_OF_MEMORY;
+// is harmed, else 0. So it is 0 too where a stripe that is unavailable or lost now has a home or the target of a lease on one of
+// the nodes, also on one that is down. Take any LRC_UP, LRC_UPGRADED and LRC_REPORT that follow, with the outage without the
+// LRC_UP of its nodes: after each of them a stripe that is not harmed is recoverable with the outage exactly if it is without.
+// Other calls that follow are left out. Where a node is lost, its homes are. Nothing changes. DONE, IS_CLOSED, OUT_OF_MEMORY;
 // OUT_OF_RANGE if it is no outage; UNKNOWN if there is no such node; or SHORT if there are more rows than `length`, which cannot
 // be with LRC_STRIPES rows, and then only `count`, the rows that it needs, and `is_safe` are written.
 uint32_t lrc_embed_forecast(lrc_handle *handle, uint8_t outage, const uint16_t *nodes, size_t nodes_length,

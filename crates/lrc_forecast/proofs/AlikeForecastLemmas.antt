@@ -1,8 +1,7 @@
 -- Alike states have the same forecasts.
 use Rattle.std.specs.Prelude.{option_to_list}
-use Rattle.std.proofs.Common.{◌≡◌, Bool, false, not, is_none, length, flat_map, ◌&&◌, ◌||◌, List, map, filter, option_map, ap, sym, ◌∙◌}
+use Rattle.std.proofs.Common.{◌≡◌, not, is_none, length, flat_map, ◌&&◌, ◌||◌, List, map, filter, option_map, ap, sym, ◌∙◌}
 use Rattle.std.specs.List.{list_any}
-use Rattle.std.specs.Option.{option_map_or}
 use Rattle.std.proofs.lemmas.Map.Entries.{option_filter}
 use Rattle.std.proofs.Math.Path.{fun_ext}
 use Rattle.lrc_code.specs.declared.numbers.NodeNo.{NodeNo}
@@ -11,18 +10,15 @@ use Rattle.lrc_code.specs.Codes.{all_fragments, has_fragment}
 use Rattle.lrc_code.specs.Losses.{bits_of}
 use Rattle.lrc_topology.specs.declared.NodeInfo.{NodeInfo}
 use Rattle.lrc_terms.specs.declared.lease.Lease.{Lease}
-use Rattle.lrc_terms.specs.declared.mode.Mode.{Mode}
-use Rattle.lrc_terms.specs.Modes.{is_gone}
 use Rattle.lrc_terms.specs.Levels.{homeless_in, missing_in, level_by, is_whole}
-use Rattle.lrc_rules.specs.States.{State, code_of, lease_of, has_number, homeless, missing, level}
+use Rattle.lrc_rules.specs.States.{State, code_of, lease_of, homeless, missing, level}
 use Rattle.lrc_rules.specs.Alike.{AreAlike}
 use Rattle.lrc_rules.specs.Goodness.{AreSeated}
-use Rattle.lrc_rules.proofs.AlikeReadLemmas.{alike-code, alike-mode, alike-down, alike-online_at, alike-homes, alike-leases}
+use Rattle.lrc_rules.proofs.AlikeReadLemmas.{alike-code, alike-online_at, alike-homes, alike-leases}
 use Rattle.lrc_book.proofs.AlikeLookLemmas.{alike-looks}
 use Rattle.lrc_forecast.specs.declared.outlook.Outage.{Outage}
 use Rattle.lrc_forecast.specs.declared.outlook.Outage.TheVariants.{Stop, Lose}
-use Rattle.lrc_forecast.specs.Forecasts.{state_with, is_on_any, hit_in, live_leases, goes_away, loses_seat, outlook, forecast}
-use Rattle.lrc_forecast.proofs.AwayLemmas.{goes-stopped, goes-lost}
+use Rattle.lrc_forecast.specs.Forecasts.{state_with, is_on_any, hit_in, live_leases, has_seat_on_any, outlook, forecast}
 use Rattle.lrc_forecast.proofs.LeaseLemmas.{is_hit, lease-stopped, lease-lost}
 use Rattle.lrc_forecast.proofs.OutageLemmas.{code-after, missing-after, homeless-stopped, homeless-lost}
 
@@ -84,12 +80,6 @@ module _ (nodes : List NodeInfo) (w v : State) (alike : AreAlike w v) (seated : 
       ∙ (λ i. option_filter (λ (l : Lease). not (is_hit ns l.target (homes i l.stripe l.fragment.value))) (lease i s f.value))
       ∙ sym (lease-lost v ns s f seated'.one_home seated'.one_lease)))
 
-  goes-then : (outage : Outage) (ns : List NodeNo) → goes_away w (state_with outage w ns) ≡ goes_away v (state_with outage v ns)
-  goes-then Stop ns = fun_ext (λ n.
-      goes-stopped w ns n ∙ ap (λ (d : Bool). has_number ns n && not d) (alike-down w v alike n) ∙ sym (goes-stopped v ns n))
-  goes-then Lose ns = fun_ext (λ n.
-      goes-lost w ns n ∙ ap (λ (m : Mode). has_number ns n && not (is_gone m)) (alike-mode w v alike n) ∙ sym (goes-lost v ns n))
-
   module _ (outage : Outage) (ns : List NodeNo) where
     level-then : level nodes (state_with outage w ns) ≡ level nodes (state_with outage v ns)
     level-then =
@@ -97,8 +87,8 @@ module _ (nodes : List NodeInfo) (w v : State) (alike : AreAlike w v) (seated : 
         let homeless = homeless-then outage ns in
         let missing = missing-then outage ns in λ i s. level_by (code i s) (homeless i s) (missing i s)
 
-    same-outlook : outlook nodes w (state_with outage w ns) ≡ outlook nodes v (state_with outage v ns)
-    unfolding live_leases loses_seat
+    same-outlook : outlook nodes w outage ns ≡ outlook nodes v outage ns
+    unfolding live_leases has_seat_on_any
     same-outlook =
         let code = alike-code w v alike in
         let before = same-level in
@@ -108,7 +98,6 @@ module _ (nodes : List NodeInfo) (w v : State) (alike : AreAlike w v) (seated : 
         let lease = alike-leases nodes w v alike seated seated' in
         let later = lease-then outage ns in
         let homes = alike-homes nodes w v alike seated seated' in
-        let goes = goes-then outage ns in
         λ i s. record {
           stripe = s;
           code = code i s;
@@ -117,7 +106,7 @@ module _ (nodes : List NodeInfo) (w v : State) (alike : AreAlike w v) (seated : 
           missing = record { bits = bits_of (code i s) (missing i s) };
           newly_missing = record { bits = bits_of (code i s) (λ f. missing i s f && not (now i s f)) };
           leases_ended = length (filter (λ (l : Lease). is_none (later i l.stripe l.fragment)) (flat_map (λ (f : Fragment). option_to_list (lease i s f.value)) all_fragments));
-          loses_seat = list_any (λ (f : Fragment). option_map_or (λ seat. goes i seat.node) (homes i s f.value) false || option_map_or (λ seat. goes i seat.node) (option_map (λ (l : Lease). l.target) (lease i s f.value)) false) all_fragments;
+          has_seat_on_any = list_any (λ (f : Fragment). is_on_any ns (homes i s f.value) || is_on_any ns (option_map (λ (l : Lease). l.target) (lease i s f.value))) all_fragments;
         }
 
     pub alike-forecast : forecast nodes w outage ns ≡ forecast nodes v outage ns

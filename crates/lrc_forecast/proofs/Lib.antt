@@ -7,7 +7,7 @@ pub mod UnrecoverableLemmas
 pub mod ReportLemmas
 pub mod ReturnLemmas
 pub mod LikeLemmas
-pub mod AwayLemmas
+pub mod SeatLemmas
 pub mod FutureLemmas
 pub mod SafeLemmas
 pub mod RefusedLemmas

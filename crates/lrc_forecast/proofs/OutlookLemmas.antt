@@ -15,15 +15,12 @@ use Rattle.lrc_book.proofs.MaskLemmas.{mask-is, mask-set}
 use Rattle.lrc_forecast.specs.declared.outlook.Outage.{Outage}
 use Rattle.lrc_forecast.specs.declared.outlook.Outage.TheVariants.{Stop, Lose}
 use Rattle.lrc_forecast.specs.declared.outlook.Outlook.{Outlook}
-use Rattle.lrc_forecast.specs.Forecasts.{state_with, is_on_any, hit_in, newly_missing, ended_leases, loses_seat, outlook}
+use Rattle.lrc_forecast.specs.Forecasts.{state_with, is_on_any, hit_in, newly_missing, ended_leases, has_seat_on_any, outlook}
 use Rattle.lrc_forecast.specs.Hits.{IsSetOf, HaveOneHome, is_on_set}
+use Rattle.lrc_forecast.proofs.SeatLemmas.{on-set}
 use Rattle.lrc_forecast.proofs.OutageLemmas.{code-after, missing-after, homeless-stopped, homeless-lost}
 
 module _ (nodes : List NodeInfo) (st : State) (ns : List NodeNo) (s : StripeNo) (set : List Bool) (are : IsSetOf ns set) where
-  on-set : (o : Option Seat) → is_on_set set o ≡ is_on_any ns o
-  on-set None = refl
-  on-set (Some seat) = are seat.node
-
   -- what the code finds of a stripe, each mask by its members
   module _ (code : Code) (own : code ≡ code_of st s) (hit now bare : ℕ)
       (hits : (f : ℕ) → bits_set hit f ≡ (has_fragment code f && is_on_set set (homes_of st.homes s f)))
@@ -31,7 +28,7 @@ module _ (nodes : List NodeInfo) (st : State) (ns : List NodeNo) (s : StripeNo) 
     hit-is : (f : ℕ) → bits_set hit f ≡ hit_in st ns s f
     hit-is f =
         hits f ∙ ap (λ (c : Code). has_fragment c f && is_on_set set (homes_of st.homes s f)) own
-        ∙ ap (λ (b : Bool). has_fragment (code_of st s) f && b) (on-set (homes_of st.homes s f))
+        ∙ ap (λ (b : Bool). has_fragment (code_of st s) f && b) (on-set st ns set are (homes_of st.homes s f))
 
     now-is : (f : ℕ) → bits_set now f ≡ missing nodes st s f
     now-is f = ap (λ (b : ℕ). bits_set b f) misses ∙ mask-set (code_of st s) (missing nodes st s) (λ g past. (none-beyond nodes st s g past).1) f
@@ -74,15 +71,15 @@ module _ (nodes : List NodeInfo) (st : State) (ns : List NodeNo) (s : StripeNo) 
         ∙ ap (λ (b : Bool). missing nodes later s f && not b) (now-is f))
 
     abbrev made : Code → Level → Level → ℕ → ℕ → ℕ → Bool → Outlook
-    made c before after bits fresh ended loses =
-        record { stripe = s; code = c; before = before; after = after; missing = record { bits = bits }; newly_missing = record { bits = fresh }; leases_ended = ended; loses_seat = loses }
+    made c before after bits fresh ended seat =
+        record { stripe = s; code = c; before = before; after = after; missing = record { bits = bits }; newly_missing = record { bits = fresh }; leases_ended = ended; has_seat_on_any = seat }
 
-    pub outlook-told : (outage : Outage) (lacking gone fresh ended : ℕ) (loses : Bool) (before after : Level) → before ≡ level nodes st s
+    pub outlook-told : (outage : Outage) (lacking gone fresh ended : ℕ) (seat : Bool) (before after : Level) → before ≡ level nodes st s
         → ((f : ℕ) → bits_set lacking f ≡ (bits_set now f || bits_set hit f)) → ((f : ℕ) → bits_set gone f ≡ homeless (state_with outage st ns) s f)
         → after ≡ level_by code (bits_set gone) (bits_set lacking) → ((f : ℕ) → bits_set fresh f ≡ (bits_set lacking f && not (bits_set now f)))
-        → ended ≡ length (ended_leases st (state_with outage st ns) s) → loses ≡ loses_seat st (state_with outage st ns) s
-        → made code before after lacking fresh ended loses ≡ outlook nodes st (state_with outage st ns) s
-    outlook-told outage lacking gone fresh ended loses before after first joined bared levelled less counted lost =
+        → ended ≡ length (ended_leases st (state_with outage st ns) s) → seat ≡ has_seat_on_any st ns s
+        → made code before after lacking fresh ended seat ≡ outlook nodes st outage ns s
+    outlook-told outage lacking gone fresh ended seat before after first joined bared levelled less counted found =
         let later = state_with outage st ns in
         let same : code_of later s ≡ code_of st s = code-after outage st ns s in
         let lacks = missing-set outage lacking joined in
@@ -92,9 +89,9 @@ module _ (nodes : List NodeInfo) (st : State) (ns : List NodeNo) (s : StripeNo) 
         let bits : lacking ≡ bits_of (code_of st s) (missing nodes later s) =
         mask-is (code_of st s) (missing nodes later s)
         (λ g past. (none-beyond nodes later s g (let p : fragment_count (code_of later s) ≤ g = rw same past in p)).1) lacking lacks in
-        ap (λ (c : Code). made c before after lacking fresh ended loses) own ∙ ap (λ (l : Level). made (code_of st s) l after lacking fresh ended loses) first
-        ∙ ap (λ (l : Level). made (code_of st s) (level nodes st s) l lacking fresh ended loses) last
-        ∙ ap (λ (b : ℕ). made (code_of st s) (level nodes st s) (level nodes later s) b fresh ended loses) bits
-        ∙ ap (λ (b : ℕ). made (code_of st s) (level nodes st s) (level nodes later s) (bits_of (code_of st s) (missing nodes later s)) b ended loses) (fresh-is outage lacking fresh joined less)
-        ∙ ap (λ (k : ℕ). made (code_of st s) (level nodes st s) (level nodes later s) (bits_of (code_of st s) (missing nodes later s)) (bits_of (code_of st s) (newly_missing nodes st later s)) k loses) counted
-        ∙ ap (made (code_of st s) (level nodes st s) (level nodes later s) (bits_of (code_of st s) (missing nodes later s)) (bits_of (code_of st s) (newly_missing nodes st later s)) (length (ended_leases st later s))) lost
+        ap (λ (c : Code). made c before after lacking fresh ended seat) own ∙ ap (λ (l : Level). made (code_of st s) l after lacking fresh ended seat) first
+        ∙ ap (λ (l : Level). made (code_of st s) (level nodes st s) l lacking fresh ended seat) last
+        ∙ ap (λ (b : ℕ). made (code_of st s) (level nodes st s) (level nodes later s) b fresh ended seat) bits
+        ∙ ap (λ (b : ℕ). made (code_of st s) (level nodes st s) (level nodes later s) (bits_of (code_of st s) (missing nodes later s)) b ended seat) (fresh-is outage lacking fresh joined less)
+        ∙ ap (λ (k : ℕ). made (code_of st s) (level nodes st s) (level nodes later s) (bits_of (code_of st s) (missing nodes later s)) (bits_of (code_of st s) (newly_missing nodes st later s)) k seat) counted
+        ∙ ap (made (code_of st s) (level nodes st s) (level nodes later s) (bits_of (code_of st s) (missing nodes later s)) (bits_of (code_of st s) (newly_missing nodes st later s)) (length (ended_leases st later s))) found

@@ -9,21 +9,21 @@ use Rattle.lrc_code.specs.declared.numbers.SessionNo.{SessionNo}
 use Rattle.lrc_code.specs.Codes.{has_fragment, fragments, all_fragments}
 use Rattle.lrc_code.specs.Losses.{FragmentSet, bits_of}
 use Rattle.lrc_topology.specs.declared.NodeInfo.{NodeInfo}
+use Rattle.lrc_topology.specs.Nodes.{AreNodes}
 use Rattle.lrc_topology.specs.declared.seat.Seat.{Seat}
 use Rattle.lrc_topology.specs.declared.seat.Held.{Held}
 use Rattle.lrc_terms.specs.declared.lease.Lease.{Lease}
 use Rattle.lrc_terms.specs.declared.level.Level.{Level}
 use Rattle.lrc_terms.specs.declared.level.Level.TheVariants.{Unavailable, Lost}
 use Rattle.lrc_terms.specs.Levels.{homes_of, is_whole}
-use Rattle.lrc_terms.specs.Modes.{is_gone}
 use Rattle.lrc_rules.specs.declared.command.Command.{Command}
 use Rattle.lrc_rules.specs.declared.command.Command.TheVariants.{Up, Upgraded, Done}
 use Rattle.lrc_rules.specs.declared.entry.Entry.{Entry}
 use Rattle.lrc_rules.specs.declared.node_command.NodeCommand.{NodeCommand}
 use Rattle.lrc_rules.specs.declared.node_command.NodeCommand.TheVariants as node
-use Rattle.lrc_rules.specs.States.{State, code_of, seats_of, lease_of, has_number, mode_of, is_down, missing, level}
-use Rattle.lrc_rules.specs.Steps.{changed_on}
-use Rattle.lrc_rules.specs.Histories.{World, outcome_in, next_world}
+use Rattle.lrc_rules.specs.States.{State, code_of, seats_of, lease_of, has_number, missing, level}
+use Rattle.lrc_rules.specs.Steps.{stands_on, changed_on}
+use Rattle.lrc_rules.specs.Histories.{World, IsLegal, outcome_in, next_world, state_after}
 use Rattle.lrc_book.specs.Looks.{stripes_of}
 use Rattle.lrc_forecast.specs.declared.outlook.Outage.{Outage}
 use Rattle.lrc_forecast.specs.declared.outlook.Outage.TheVariants.{Stop, Lose}
@@ -39,9 +39,9 @@ abbrev pub state_with : Outage → State → List NodeNo → State
 state_with outage st [] = st
 state_with outage st (n ∷ ns) = state_with outage (changed_on (report_of outage) st n) ns
 
--- the home is on one of the nodes
+-- the seat is on one of the nodes
 abbrev pub is_on_any : List NodeNo → Option Seat → Bool
-is_on_any ns home = option_map_or (λ seat. has_number ns seat.node) home false
+is_on_any ns seat = option_map_or (λ t. has_number ns t.node) seat false
 
 -- the fragments of a stripe with a home on one of the nodes
 abbrev pub hit_in : State → List NodeNo → StripeNo → FragmentSet
@@ -67,50 +67,43 @@ live_leases st s = flat_map (λ f. option_to_list (lease_of st s f)) all_fragmen
 abbrev pub ended_leases : State → State → StripeNo → List Lease
 ended_leases st after s = filter (λ l. is_none (lease_of after l.stripe l.fragment)) (live_leases st s)
 
--- ---- seats that go away
-
--- the node goes away from the first state to the second: it is gone or down in the second, and was not so in the first
-abbrev pub goes_away : State → State → NodeNo → Bool
-goes_away st after n = (is_gone (mode_of after n) && not (is_gone (mode_of st n))) || (is_down after n && not (is_down st n))
-
--- the seat is on such a node
-abbrev pub is_taken_away : State → State → Option Seat → Bool
-is_taken_away st after seat = option_map_or (λ t. goes_away st after t.node) seat false
+-- ---- seats on the nodes
 
 -- the target of the live lease of a fragment
 abbrev pub lease_target : State → StripeNo → Fragment → Option Seat
 lease_target st s f = option_map (λ l. l.target) (lease_of st s f)
 
--- a seat of the stripe goes away: the home of a fragment, or the target of its live lease
-unfoldable pub loses_seat : State → State → StripeNo → Bool
-loses_seat st after s = list_any (λ f. is_taken_away st after (homes_of st.homes s f.value) || is_taken_away st after (lease_target st s f)) all_fragments
+-- a seat of the stripe is on one of the nodes: the home of a fragment, or the target of its live lease
+unfoldable pub has_seat_on_any : State → List NodeNo → StripeNo → Bool
+has_seat_on_any st ns s = list_any (λ f. is_on_any ns (homes_of st.homes s f.value) || is_on_any ns (lease_target st s f)) all_fragments
 
 -- ---- forecasts
 
--- what becomes of the stripe
-abbrev pub outlook : List NodeInfo → State → State → StripeNo → Outlook
-outlook nodes st after s = record {
-  stripe = s;
-  code = code_of st s;
-  before = level nodes st s;
-  after = level nodes after s;
-  missing = record { bits = bits_of (code_of st s) (missing nodes after s) };
-  newly_missing = record { bits = bits_of (code_of st s) (newly_missing nodes st after s) };
-  leases_ended = length (ended_leases st after s);
-  loses_seat = loses_seat st after s;
-}
+-- what becomes of the stripe if this happens to these nodes
+abbrev pub outlook : List NodeInfo → State → Outage → List NodeNo → StripeNo → Outlook
+outlook nodes st outage ns s =
+    let after = state_with outage st ns in record {
+      stripe = s;
+      code = code_of st s;
+      before = level nodes st s;
+      after = level nodes after s;
+      missing = record { bits = bits_of (code_of st s) (missing nodes after s) };
+      newly_missing = record { bits = bits_of (code_of st s) (newly_missing nodes st after s) };
+      leases_ended = length (ended_leases st after s);
+      has_seat_on_any = has_seat_on_any st ns s;
+    }
 
 -- the stripe is not whole in the state
 abbrev pub is_risky : List NodeInfo → State → StripeNo → Bool
 is_risky nodes st s = not (is_whole (level nodes st s))
 
--- what becomes of these stripes; those that are whole in the second state are left out
-abbrev pub outlooks : List NodeInfo → State → State → List StripeNo → List Outlook
-outlooks nodes st after stripes = map (outlook nodes st after) (filter (is_risky nodes after) stripes)
+-- what becomes of these stripes; those that are whole then are left out
+abbrev pub outlooks : List NodeInfo → State → Outage → List NodeNo → List StripeNo → List Outlook
+outlooks nodes st outage ns stripes = map (outlook nodes st outage ns) (filter (is_risky nodes (state_with outage st ns)) stripes)
 
--- what becomes of the stripes of the store if this happens to these nodes, in rising order
+-- what becomes of the stripes of the store, in rising order
 abbrev pub forecast : List NodeInfo → State → Outage → List NodeNo → List Outlook
-forecast nodes st outage ns = outlooks nodes st (state_with outage st ns) (stripes_of st)
+forecast nodes st outage ns = outlooks nodes st outage ns (stripes_of st)
 
 -- ---- harm
 
@@ -120,11 +113,10 @@ is_unrecoverable Unavailable = true
 is_unrecoverable Lost = true
 is_unrecoverable _ = false
 
--- The outage harms the stripe: it is not recoverable then, and it is recoverable now, or a seat of it goes away. What a return
--- could bring back counts, so a seat on a node that is only upgrading goes away where the node stops, and one on a node that is
--- down where the node is lost.
+-- The outage harms the stripe: it is not recoverable then, and it is recoverable now, or a seat of it is on one of the nodes. All
+-- that is there may be needed later, as the node might have come up, or its upgrade might have ended.
 abbrev pub is_harmed : Outlook → Bool
-is_harmed o = is_unrecoverable o.after && (not (is_unrecoverable o.before) || o.loses_seat)
+is_harmed o = is_unrecoverable o.after && (not (is_unrecoverable o.before) || o.has_seat_on_any)
 
 -- no stripe is harmed
 abbrev pub harms_none : List Outlook → Bool
@@ -136,9 +128,9 @@ harms_none rows = not (list_any is_harmed rows)
 abbrev pub IsUnrecoverable : List NodeInfo → State → StripeNo → Type 0
 IsUnrecoverable nodes st s = (level nodes st s ≡ Unavailable) ⊎ (level nodes st s ≡ Lost)
 
--- each seat of the stripe, a home or the target of a live lease, is on a node that does not go away
-abbrev pub KeepsSeats : State → State → StripeNo → Type 0
-KeepsSeats st after s = (h : Held) → Contains (seats_of st) h → h.stripe ≡ s → IsFalse (goes_away st after h.seat.node)
+-- no seat of the stripe, a home or the target of a live lease, is on one of the nodes
+abbrev pub HasNoSeatOn : State → List NodeNo → StripeNo → Type 0
+HasNoSeatOn st ns s = (h : Held) → Contains (seats_of st) h → h.stripe ≡ s → IsFalse (has_number ns h.seat.node)
 
 -- ---- what may come back
 
@@ -157,6 +149,15 @@ Call = SessionNo × Command
 abbrev pub AreReturns : List Call → Type 0
 AreReturns calls = All (λ c. IsTrue (is_return c.1)) calls
 
+-- the command says that one of the nodes is up
+abbrev pub is_up_of : List NodeNo → Command → Bool
+is_up_of ns (Up n) = has_number ns n
+is_up_of ns _ = false
+
+-- the calls but those that say so: what comes back while these nodes stay away
+abbrev pub without_up : List NodeNo → List Call → List Call
+without_up ns calls = filter (λ c. not (is_up_of ns c.1)) calls
+
 -- the entry of a call: its reply is that of the rules
 abbrev pub entry_of : List NodeInfo → World → Call → Entry
 entry_of nodes w c = record { session = c.0; command = c.1; reply = (outcome_in nodes w c.0 c.1).0 }
@@ -169,3 +170,25 @@ world_with nodes w (c ∷ cs) = world_with nodes (next_world nodes w (entry_of n
 -- the state after these calls, made in this state after these entries
 abbrev pub state_after_calls : List NodeInfo → List Entry → State → List Call → State
 state_after_calls nodes past st calls = (world_with nodes (record { past = past; state = st }) calls).state
+
+-- ---- why harm is harm
+
+-- After some legal history a stripe is not recoverable, and the outage of a node, of which something holds, harms it. One return
+-- shows why: after it the stripe is recoverable without the outage, and is not with it, while the node stays away.
+abbrev pub IsShown : Outage → (List NodeInfo → State → StripeNo → NodeNo → Type 0) → Type 0
+IsShown outage Holds =
+    (nodes : List NodeInfo) × (history : List Entry) × (s : StripeNo) × (n : NodeNo) × (call : Call)
+    × AreNodes nodes × IsLegal nodes history × IsTrue (is_return call.1)
+    × Holds nodes (state_after nodes history) s n
+    × IsUnrecoverable nodes (state_after nodes history) s
+    × IsFalse (harms_none (forecast nodes (state_after nodes history) outage (n ∷ [])))
+    × IsUnrecoverable nodes (state_after_calls nodes history (state_with outage (state_after nodes history) (n ∷ [])) (without_up (n ∷ []) (call ∷ []))) s
+    × ¬ (IsUnrecoverable nodes (state_after_calls nodes history (state_after nodes history) (call ∷ [])) s)
+
+-- the node has a home of the stripe, which has no live lease
+abbrev pub HasOnlyHome : State → StripeNo → NodeNo → Type 0
+HasOnlyHome st s n = (live_leases st s ≡ []) × (f : ℕ) × IsTrue (hit_in st (n ∷ []) s f)
+
+-- the node has the target of a live lease of the stripe, and no home
+abbrev pub HasOnlyTarget : State → StripeNo → NodeNo → Type 0
+HasOnlyTarget st s n = IsFalse (list_any (stands_on n) st.homes) × (f : Fragment) × IsTrue (is_on_any (n ∷ []) (lease_target st s f))

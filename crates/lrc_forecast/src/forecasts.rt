@@ -5,11 +5,11 @@ ghost use Rattle.lrc_code.specs.declared.numbers.NodeNo.{NodeNo as AnyNode};
 ghost use Rattle.lrc_rules.specs.States.{has_stripe};
 ghost use Rattle.lrc_rules.specs.Goodness.{AreSeated};
 ghost use Rattle.lrc_book.specs.Books.{state_of};
-ghost use Rattle.lrc_forecast.specs.Forecasts.{state_with, outlook, forecast, is_harmed, harms_none};
+ghost use Rattle.lrc_forecast.specs.Forecasts.{outlook, forecast, is_harmed, harms_none};
 ghost use Rattle.lrc_forecast.specs.Hits.{IsSetOf};
 
 use crate::hits::{NodeSet, fragments_on, joined, leases_on, set_of, without};
-use crate::seats::loses_seat;
+use crate::seats::has_seat_on_any;
 use crate::{Outage, Outlook};
 use lrc_book::{Book, homeless_of};
 use lrc_code::{Fault, NodeNo, StripeNo};
@@ -66,7 +66,7 @@ fn outlook_of(book: &Book, stripe: StripeNo, outage: Outage, hit_nodes: &NodeSet
     requires seated { AreSeated book.now.nodes (state_of book.now) }
     requires long { length hit_nodes.now ≡ 65536 }
     ensures { (ns : List AnyNode) → IsSetOf ns hit_nodes.now
-        → result ≡ outlook book.now.nodes (state_of book.now) (state_with outage (state_of book.now) ns) stripe }
+        → result ≡ outlook book.now.nodes (state_of book.now) outage ns stripe }
 {
     let code = book.code(stripe).unwrap();
     let homes = book.homes(stripe).unwrap();
@@ -90,6 +90,6 @@ fn outlook_of(book: &Book, stripe: StripeNo, outage: Outage, hit_nodes: &NodeSet
         missing,
         newly_missing: without(missing, missing_now),
         leases_ended,
-        loses_seat: loses_seat(book, outage, stripe, &homes, hit_nodes),
+        has_seat_on_any: has_seat_on_any(book, stripe, &homes, hit_nodes),
     }
 }

@@ -48,12 +48,12 @@ pub(crate) fn fragments_on(
     set
 }
 
-/// Whether the home is on a node of the set.
-pub(crate) fn is_on(home: Option<Seat>, nodes: &NodeSet) -> bool
+/// Whether the seat is on a node of the set.
+pub(crate) fn is_on(seat: Option<Seat>, nodes: &NodeSet) -> bool
     requires long { length nodes.now ≡ 65536 }
-    ensures { result ≡ is_on_set nodes.now home }
+    ensures { result ≡ is_on_set nodes.now seat }
 {
-    match home {
+    match seat {
         Some(seat) => nodes.contains(seat.node.value as usize),
         None => false,
     }

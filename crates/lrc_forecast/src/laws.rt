@@ -22,7 +22,7 @@ ghost use Rattle.lrc_rules.specs.Histories.{IsLegal, state_after};
 ghost use Rattle.lrc_rules.specs.Goodness.{AreSeated};
 ghost use Rattle.lrc_forecast.specs.declared.outlook.Outage.{Outage};
 ghost use Rattle.lrc_forecast.specs.declared.outlook.Outage.TheVariants.{Stop, Lose};
-ghost use Rattle.lrc_forecast.specs.Forecasts.{state_with, is_on_any, hit_in, HasSameLosses, ended_leases, goes_away, loses_seat, outlook, forecast, is_harmed, harms_none, IsUnrecoverable, KeepsSeats, Call, is_return, AreReturns, state_after_calls};
+ghost use Rattle.lrc_forecast.specs.Forecasts.{state_with, is_on_any, hit_in, HasSameLosses, ended_leases, has_seat_on_any, outlook, forecast, is_harmed, harms_none, IsUnrecoverable, HasNoSeatOn, Call, AreReturns, without_up, state_after_calls, IsShown, HasOnlyHome, HasOnlyTarget};
 
 /// Where the store takes the command `Down` or `Fail`, it comes to the state with the outage of this node. Where it
 /// refuses the command, each stripe has the same level, the same missing fragments and the same leases with the outage as
@@ -65,49 +65,46 @@ pub fn leases_end_in_words()
         ↔ (Contains st.leases l × ¬ (Contains (ended_leases st (state_with outage st ns) l.stripe) l)) }
 {}
 
-/// A node that stops goes away if it is one of those named and is not down already, whatever upgrades. A node that is lost goes
-/// away if it is one of those named and is not gone already. A seat is never on a node that is gone, so a stripe loses a seat
-/// exactly if a home or a target of it is on a node that goes away.
-pub fn seats_go_away_in_words()
-    ensures stopped { (st : State) (ns : List NodeNo) (n : NodeNo) → goes_away st (state_with Stop st ns) n ≡ (has_number ns n && not (is_down st n)) }
-    ensures lost { (st : State) (ns : List NodeNo) (n : NodeNo) → goes_away st (state_with Lose st ns) n ≡ (has_number ns n && not (is_gone (mode_of st n))) }
+/// A stripe has a seat on one of the nodes exactly if a home, or the target of a live lease, of a fragment of it is there. A seat
+/// is never on a node that is gone, so a node that is gone already harms nothing.
+pub fn seats_in_words()
+    ensures seats { (nodes : List NodeInfo) (st : State) (ns : List NodeNo) (s : StripeNo) → AreSeated nodes st → IsFalse (has_seat_on_any st ns s) ↔ HasNoSeatOn st ns s }
     ensures standing { (nodes : List NodeInfo) (st : State) (h : Held) → AreSeated nodes st → Contains (seats_of st) h → IsFalse (is_gone (mode_of st h.seat.node)) }
-    ensures seats { (nodes : List NodeInfo) (st after : State) (s : StripeNo) → AreSeated nodes st → IsFalse (loses_seat st after s) ↔ KeepsSeats st after s }
 {}
 
-/// An outage is safe exactly if each stripe of the store that is unavailable or lost with it is so without it, and keeps all
-/// its seats.
+/// An outage is safe exactly if each stripe of the store that is unavailable or lost with it is so without it, and has no seat on
+/// one of the nodes.
 pub fn safe_in_words()
     ensures { (nodes : List NodeInfo) (st : State) (outage : Outage) (ns : List NodeNo)
         → AreSeated nodes st → IsTrue (harms_none (forecast nodes st outage ns))
         ↔ ((s : StripeNo) → Contains st.stripes s → IsUnrecoverable nodes (state_with outage st ns) s
-        → IsUnrecoverable nodes st s × KeepsSeats st (state_with outage st ns) s) }
+        → IsUnrecoverable nodes st s × HasNoSeatOn st ns s) }
 {}
 
-/// What is safe stays so whatever comes back. Take a stripe that an outage does not harm, and any sequence of `up`, `upgraded` and
-/// `done`, by whatever sessions. With the outage the stripe is recoverable after the sequence exactly if it is so without the
-/// outage. If an outage is safe, this holds of every stripe of the store.
+/// What is safe stays so whatever comes back, while the nodes stay away. Take a stripe that an outage does not harm, and any sequence
+/// of `up`, `upgraded` and `done`, by whatever sessions. With the outage leave out each `up` of one of its nodes. Then the stripe is
+/// recoverable with the outage after the sequence exactly if it is so without. If an outage is safe, this holds of every stripe of
+/// the store. Each step of a sequence ends one, so it holds after each step. It also holds if the nodes come up again.
 pub fn no_return_makes_a_safe_outage_harmful()
     ensures stripe { (nodes : List NodeInfo) (past more : List Entry) (st : State) (outage : Outage) (ns : List NodeNo) (calls : List Call) (s : StripeNo)
-        → AreSeated nodes st → AreReturns calls → IsFalse (is_harmed (outlook nodes st (state_with outage st ns) s))
-        → IsUnrecoverable nodes (state_after_calls nodes more (state_with outage st ns) calls) s ↔ IsUnrecoverable nodes (state_after_calls nodes past st calls) s }
+        → AreSeated nodes st → AreReturns calls → IsFalse (is_harmed (outlook nodes st outage ns s))
+        → IsUnrecoverable nodes (state_after_calls nodes more (state_with outage st ns) (without_up ns calls)) s ↔ IsUnrecoverable nodes (state_after_calls nodes past st calls) s }
     ensures all { (nodes : List NodeInfo) (past more : List Entry) (st : State) (outage : Outage) (ns : List NodeNo) (calls : List Call) (s : StripeNo)
         → AreSeated nodes st → AreReturns calls → IsTrue (harms_none (forecast nodes st outage ns)) → Contains st.stripes s
+        → IsUnrecoverable nodes (state_after_calls nodes more (state_with outage st ns) (without_up ns calls)) s ↔ IsUnrecoverable nodes (state_after_calls nodes past st calls) s }
+    ensures with_up { (nodes : List NodeInfo) (past more : List Entry) (st : State) (outage : Outage) (ns : List NodeNo) (calls : List Call) (s : StripeNo)
+        → AreSeated nodes st → AreReturns calls → IsFalse (is_harmed (outlook nodes st outage ns s))
         → IsUnrecoverable nodes (state_after_calls nodes more (state_with outage st ns) calls) s ↔ IsUnrecoverable nodes (state_after_calls nodes past st calls) s }
 {}
 
-/// What a return can bring back counts as harm, and not for nothing. After some legal history a stripe is unavailable, and an outage of
-/// one node that is offline already is not safe. Then one return shows why: without the outage the stripe is recoverable after it,
-/// and with the outage it is not. This holds of a node that stops and is not down, and of one that is lost and is down.
+/// Each seat counts as harm, and not for nothing: an outage of the node of one seat can keep a stripe unrecoverable that one return
+/// would have made recoverable (`IsShown`). This holds of a stop and of a loss; of a home on a node that is online, on one that
+/// is down, and on one that is offline only by an upgrade; and of the target of a live lease.
 pub fn a_return_shows_the_harm()
-    ensures { (outage : Outage) → (nodes : List NodeInfo) × (history : List Entry) × (n : NodeNo) × (call : Call) × (s : StripeNo)
-        × AreNodes nodes × IsLegal nodes history × IsTrue (is_return call.1)
-        × IsUnrecoverable nodes (state_after nodes history) s
-        × IsFalse (online_at nodes (state_after nodes history) n)
-        × (outage ≡ Stop → IsFalse (is_down (state_after nodes history) n)) × (outage ≡ Lose → IsTrue (is_down (state_after nodes history) n))
-        × IsFalse (harms_none (forecast nodes (state_after nodes history) outage (n ∷ [])))
-        × IsUnrecoverable nodes (state_after_calls nodes history (state_with outage (state_after nodes history) (n ∷ [])) (call ∷ [])) s
-        × ¬ (IsUnrecoverable nodes (state_after_calls nodes history (state_after nodes history) (call ∷ [])) s) }
+    ensures online { (outage : Outage) → IsShown outage (λ nodes st s n. HasOnlyHome st s n × IsTrue (online_at nodes st n)) }
+    ensures down { (outage : Outage) → IsShown outage (λ nodes st s n. HasOnlyHome st s n × IsTrue (is_down st n)) }
+    ensures upgrading { (outage : Outage) → IsShown outage (λ nodes st s n. HasOnlyHome st s n × IsFalse (is_down st n) × IsFalse (online_at nodes st n)) }
+    ensures target { (outage : Outage) → IsShown outage (λ nodes st s n. HasOnlyTarget st s n) }
 {}
 
 /// The outage of one node can be safe, that of another node too, and the outage of both not: this holds of some nodes

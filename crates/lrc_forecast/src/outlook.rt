@@ -28,18 +28,17 @@ pub struct Outlook {
     pub newly_missing: LossMask,
     /// How many live leases of the stripe end by the outage.
     pub leases_ended: u8,
-    /// Whether a seat of the stripe, a home or the target of a live lease, goes away by the outage: it is on one of the nodes,
-    /// and the node is lost, or stops and is not down now.
-    pub loses_seat: bool,
+    /// Whether a seat of the stripe, a home or the target of a live lease, is on one of the nodes.
+    pub has_seat_on_any: bool,
 }
 
 impl Outlook {
-    /// Whether the outage harms the stripe: it is unavailable or lost then, and is whole or at risk now, or a seat of it goes
-    /// away. A stripe that is not harmed comes back with the outage exactly if it comes back without it.
+    /// Whether the outage harms the stripe: it is unavailable or lost then, and it is neither now, or a seat of it is on one of
+    /// the nodes. While the nodes stay away, a stripe that is not harmed comes back exactly if it comes back without the outage.
     pub fn is_harmed(self) -> bool
         ensures { result ≡ is_harmed self }
     {
-        is_unrecoverable(self.after) && (!is_unrecoverable(self.before) || self.loses_seat)
+        is_unrecoverable(self.after) && (!is_unrecoverable(self.before) || self.has_seat_on_any)
     }
 }
 

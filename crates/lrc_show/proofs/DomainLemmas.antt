@@ -16,7 +16,7 @@ use Rattle.lrc_rules.specs.States.{State, level}
 use Rattle.lrc_book.specs.Looks.{stripes_of, homes_on}
 use Rattle.lrc_forecast.specs.declared.outlook.Outage.{Outage}
 use Rattle.lrc_forecast.specs.declared.outlook.Outlook.{Outlook}
-use Rattle.lrc_forecast.specs.Forecasts.{is_risky, outlook, outlooks, forecast}
+use Rattle.lrc_forecast.specs.Forecasts.{state_with, is_risky, outlook, outlooks, forecast}
 use Rattle.lrc_groups.specs.declared.named.Named.{Named}
 use Rattle.lrc_groups.specs.Groups.{numbers_in}
 use Rattle.lrc_show.specs.declared.nodes.NodeFacts.{NodeFacts}
@@ -27,25 +27,28 @@ use Rattle.lrc_show.proofs.FragmentLemmas.{commas}
 
 -- ---- how many stripes have each level then, by the rows of those that are not whole
 
-module _ (nodes : List NodeInfo) (st after : State) where
+module _ (nodes : List NodeInfo) (st : State) (outage : Outage) (ns : List NodeNo) where
+  abbrev after : State
+  after = state_with outage st ns
+
   abbrev rows : List StripeNo → List Outlook
-  rows xs = outlooks nodes st after xs
+  rows xs = outlooks nodes st outage ns xs
 
   abbrev then_at : Level → StripeNo → Bool
   then_at l s = is_level l (level nodes after s)
 
   -- one stripe more
   count-one : (l v : Level) (n m : ℕ) (before : StripeNo) (s : StripeNo) (xs : List StripeNo) → is_level l Whole ≡ false → v ≡ level nodes after s
-      → outlook_count l (rows xs) ≡ m → outlook_count l (map (outlook nodes st after) (cond (not (is_whole v)) (s ∷ filter (is_risky nodes after) xs) (filter (is_risky nodes after) xs))) ≡ cond (is_level l v) 1 0 + m
+      → outlook_count l (rows xs) ≡ m → outlook_count l (map (outlook nodes st outage ns) (cond (not (is_whole v)) (s ∷ filter (is_risky nodes after) xs) (filter (is_risky nodes after) xs))) ≡ cond (is_level l v) 1 0 + m
   count-one l Whole n m before s xs never is so_far = so_far ∙ sym (zero-add m) ∙ ap (λ (b : Bool). cond b 1 0 + m) (sym never)
   count-one l (AtRisk k) n m before s xs never is so_far =
-      sum_by-cons (λ (o : Outlook). cond (is_level l o.after) 1 0) (outlook nodes st after s) (rows xs)
+      sum_by-cons (λ (o : Outlook). cond (is_level l o.after) 1 0) (outlook nodes st outage ns s) (rows xs)
       ∙ ap (λ (w : Level). cond (is_level l w) 1 0 + outlook_count l (rows xs)) (sym is) ∙ ap (λ (t : ℕ). cond (is_level l (AtRisk k)) 1 0 + t) so_far
   count-one l Unavailable n m before s xs never is so_far =
-      sum_by-cons (λ (o : Outlook). cond (is_level l o.after) 1 0) (outlook nodes st after s) (rows xs)
+      sum_by-cons (λ (o : Outlook). cond (is_level l o.after) 1 0) (outlook nodes st outage ns s) (rows xs)
       ∙ ap (λ (w : Level). cond (is_level l w) 1 0 + outlook_count l (rows xs)) (sym is) ∙ ap (λ (t : ℕ). cond (is_level l Unavailable) 1 0 + t) so_far
   count-one l Lost n m before s xs never is so_far =
-      sum_by-cons (λ (o : Outlook). cond (is_level l o.after) 1 0) (outlook nodes st after s) (rows xs)
+      sum_by-cons (λ (o : Outlook). cond (is_level l o.after) 1 0) (outlook nodes st outage ns s) (rows xs)
       ∙ ap (λ (w : Level). cond (is_level l w) 1 0 + outlook_count l (rows xs)) (sym is) ∙ ap (λ (t : ℕ). cond (is_level l Lost) 1 0 + t) so_far
 
   -- those that are not whole
@@ -62,7 +65,7 @@ module _ (nodes : List NodeInfo) (st after : State) where
   whole-one Lost = refl
 
   risky-count : (xs : List StripeNo) → length (rows xs) ≡ count_by (is_risky nodes after) xs
-  risky-count xs = length-map (filter (is_risky nodes after) xs) (outlook nodes st after) ∙ length-filter (is_risky nodes after) xs
+  risky-count xs = length-map (filter (is_risky nodes after) xs) (outlook nodes st outage ns) ∙ length-filter (is_risky nodes after) xs
 
   all-counted : (xs : List StripeNo) → count_by (is_risky nodes after) xs + count_by (then_at Whole) xs ≡ length xs
   all-counted [] = refl
@@ -103,22 +106,25 @@ module _ (nodes : List NodeInfo) (st : State) where
   line_of h w a b c u l =
       commas (decimal h ∷ decimal w ∷ decimal a ∷ decimal b ∷ decimal c ∷ decimal u ∷ decimal l ∷ [])
 
-  module _ (after : State) (hit : ℕ) where
+  module _ (outage : Outage) (named : List NodeNo) (hit : ℕ) where
+    abbrev then_in : State
+    then_in = state_with outage st named
+
     abbrev xs : List StripeNo
     xs = stripes_of st
 
     abbrev then : List Outlook
-    then = outlooks nodes st after xs
+    then = outlooks nodes st outage named xs
 
     abbrev at : Level → ℕ
-    at l = level_count_in nodes st after l
+    at l = level_count_in nodes st then_in l
 
-    levels-told : outlook_line hit (length xs) then ≡ commas (decimal hit ∷ level_fields nodes st after)
+    levels-told : outlook_line hit (length xs) then ≡ commas (decimal hit ∷ level_fields nodes st then_in)
     unfolding outlook_line
     levels-told =
-        let count = count-then nodes st after in
+        let count = count-then nodes st outage named in
         ap (λ (n : ℕ). line_of hit n (outlook_count (AtRisk 2) then) (outlook_count (AtRisk 1) then) (outlook_count (AtRisk 0) then) (outlook_count Unavailable then) (outlook_count Lost then))
-        (count-whole nodes st after xs)
+        (count-whole nodes st outage named xs)
         ∙ ap (λ (n : ℕ). line_of hit (at Whole) n (outlook_count (AtRisk 1) then) (outlook_count (AtRisk 0) then) (outlook_count Unavailable then) (outlook_count Lost then)) (count (AtRisk 2) refl xs)
         ∙ ap (λ (n : ℕ). line_of hit (at Whole) (at (AtRisk 2)) n (outlook_count (AtRisk 0) then) (outlook_count Unavailable then) (outlook_count Lost then)) (count (AtRisk 1) refl xs)
         ∙ ap (λ (n : ℕ). line_of hit (at Whole) (at (AtRisk 2)) (at (AtRisk 1)) n (outlook_count Unavailable then) (outlook_count Lost then)) (count (AtRisk 0) refl xs)
@@ -140,10 +146,10 @@ module _ (nodes : List NodeInfo) (st : State) where
       let sums : sum_line st leases members ≡ commas (sum_fields st ns) =
       ap (λ (ls : List Lease). sum_line st ls members) live ∙ ap (sum_line st (all_leases st)) are ∙ sums-told ns in
       let hit-is : hit ≡ there = hits ∙ ap (λ (k : List NodeNo). count_by (is_hit st k) (stripes_of st)) named in
-      let rows-are : rows ≡ outlooks nodes st after (stripes_of st) = told ∙ ap (forecast nodes st outage) named in
+      let rows-are : rows ≡ outlooks nodes st outage (numbers_in nodes (d ∷ [])) (stripes_of st) = told ∙ ap (forecast nodes st outage) named in
       let levels : outlook_line hit stripes rows ≡ commas (decimal there ∷ level_fields nodes st after) =
       ap (λ (n : ℕ). outlook_line n stripes rows) hit-is ∙ ap (λ (n : ℕ). outlook_line there n rows) long
-      ∙ ap (outlook_line there (length (stripes_of st))) rows-are ∙ levels-told after there in
+      ∙ ap (outlook_line there (length (stripes_of st))) rows-are ∙ levels-told outage (numbers_in nodes (d ∷ [])) there in
       en
       ∙ ap (λ (t : List ℕ). t ++ codes "\n")
       (ee ∙ ap (λ (t : List ℕ). t ++ outlook_line hit stripes rows) (eb ∙ ap (λ (t : List ℕ). t ++ sum_line st leases members) ea)

@@ -6,6 +6,7 @@ use Rattle.std.specs.Option.{option_map_or}
 use Rattle.std.proofs.lemmas.List.{take_all}
 use Rattle.std.proofs.lemmas.List.Folds.{fold-map}
 use Rattle.lrc_code.specs.declared.numbers.StripeNo.{StripeNo}
+use Rattle.lrc_code.specs.declared.numbers.NodeNo.{NodeNo}
 use Rattle.lrc_code.specs.declared.numbers.Fragment.{Fragment}
 use Rattle.lrc_code.specs.Codes.{all_fragments}
 use Rattle.lrc_topology.specs.declared.NodeInfo.{NodeInfo}
@@ -19,7 +20,8 @@ use Rattle.lrc_rules.specs.Repairs.{needs, kind}
 use Rattle.lrc_rules.specs.Urgency.{work}
 use Rattle.lrc_rules.proofs.ListedLemmas.{work-listed}
 use Rattle.lrc_book.specs.Looks.{kind_shown}
-use Rattle.lrc_forecast.specs.Forecasts.{is_risky, outlook, outlooks}
+use Rattle.lrc_forecast.specs.declared.outlook.Outage.{Outage}
+use Rattle.lrc_forecast.specs.Forecasts.{state_with, is_risky, outlook, outlooks}
 use Rattle.lrc_show.specs.Summed.{is_level, shown_number}
 use Rattle.lrc_show.specs.Reasons.{needing_of, is_lost_by, is_grave, slots_row, reason_row}
 use Rattle.lrc_text.specs.Tables.{table_line}
@@ -33,11 +35,14 @@ use Rattle.lrc_show.proofs.DomainLemmas.{filter-map}
 
 -- ---- stripes that an outage would lose
 
-module _ (nodes : List NodeInfo) (st after : State) where
+module _ (nodes : List NodeInfo) (st : State) (outage : Outage) (ns : List NodeNo) where
+  abbrev after : State
+  after = state_with outage st ns
+
   -- one stripe more: one that is whole then is not lost
   lost-one : (v : Level) (s : StripeNo) (xs : List StripeNo) (rest : Bool) → v ≡ level nodes after s
-      → list_any is_newly_lost (outlooks nodes st after xs) ≡ rest
-      → list_any is_newly_lost (map (outlook nodes st after) (cond (not (is_whole v)) (s ∷ filter (is_risky nodes after) xs) (filter (is_risky nodes after) xs)))
+      → list_any is_newly_lost (outlooks nodes st outage ns xs) ≡ rest
+      → list_any is_newly_lost (map (outlook nodes st outage ns) (cond (not (is_whole v)) (s ∷ filter (is_risky nodes after) xs) (filter (is_risky nodes after) xs)))
       ≡ (is_lost_by nodes st after s || rest)
   lost-one Whole s xs rest is so_far =
       so_far ∙ ap (λ (w : Level). (is_level Lost w && not (is_level Lost (level nodes st s))) || rest) is
@@ -45,7 +50,7 @@ module _ (nodes : List NodeInfo) (st after : State) where
   lost-one Unavailable s xs rest is so_far = ap (λ (b : Bool). is_lost_by nodes st after s || b) so_far
   lost-one Lost s xs rest is so_far = ap (λ (b : Bool). is_lost_by nodes st after s || b) so_far
 
-  pub lost-told : (xs : List StripeNo) → list_any is_newly_lost (outlooks nodes st after xs) ≡ list_any (is_lost_by nodes st after) xs
+  pub lost-told : (xs : List StripeNo) → list_any is_newly_lost (outlooks nodes st outage ns xs) ≡ list_any (is_lost_by nodes st after) xs
   lost-told [] = refl
   lost-told (s ∷ xs) = lost-one (level nodes after s) s xs (list_any (is_lost_by nodes st after) xs) refl (lost-told xs)
 

@@ -15,8 +15,8 @@ use Rattle.lrc_book.proofs.StripeLemmas.{code-told, level-told, mask-told, homes
 use Rattle.lrc_forecast.specs.declared.outlook.Outage.{Outage}
 use Rattle.lrc_forecast.specs.Forecasts.{state_with, ended_leases}
 use Rattle.lrc_forecast.proofs.LeaseLemmas.{ended-stopped, ended-count}
-use Rattle.lrc_forecast.specs.Hits.{has_going_seat}
-use Rattle.lrc_forecast.proofs.AwayLemmas.{loses-as}
+use Rattle.lrc_forecast.specs.Hits.{has_seat_on_set}
+use Rattle.lrc_forecast.proofs.SeatLemmas.{seats-as}
 use Rattle.lrc_forecast.proofs.OutlookLemmas.{stopped-set, lost-set, outlook-told}
 use Rattle.lrc_forecast.proofs.forecasts.outlook_of.Goals as goal
 use Rattle.lrc_forecast.proofs.forecasts.outlook_of.Goals.{in-Stop, in-Lose, in-Stop-outage, in-Lose-outage}
@@ -65,8 +65,8 @@ returns c = λ ns are.
           w.leases_ended-is ∙ w.leases_on-leases_ended.ensures (homes_of st.homes s) homes ∙ ended-count st ns c.requires.seated.one_home c.requires.seated.one_lease s c.args.hit_nodes.now are
           ∙ ap (λ (o : Outage). length (ended_leases st (state_with o st ns) s)) (sym w.in-Lose-outage.is)
     ] in
-    let going : List (Option Seat) → Bool =
-    λ of. list_any (has_going_seat c.args.hit_nodes.now c.args.outage nodes st s (λ f. get_or of f None)) all_fragments in
+    let seated : List (Option Seat) → Bool =
+    λ of. list_any (has_seat_on_set c.args.hit_nodes.now st s (λ f. get_or of f None)) all_fragments in
     outlook-told nodes st ns s c.args.hit_nodes.now are code own hit now bare hits misses unhomed c.requires.seated.one_home c.args.outage c.joined-missing.result.bits
-    c.match-outage.homeless.bits c.without.result.bits c.match-outage-2.leases_ended c.loses_seat.result c.unwrap.result c.level_by.result first c.joined-missing.ensures bared c.level_by.ensures
-    c.without.ensures ended (c.loses_seat.ensures ∙ ap going homes ∙ loses-as nodes st c.requires.seated ns c.args.hit_nodes.now are c.args.outage s)
+    c.match-outage.homeless.bits c.without.result.bits c.match-outage-2.leases_ended c.has_seat_on_any.result c.unwrap.result c.level_by.result first c.joined-missing.ensures bared c.level_by.ensures
+    c.without.ensures ended (c.has_seat_on_any.ensures ∙ ap seated homes ∙ seats-as st ns c.args.hit_nodes.now are s)

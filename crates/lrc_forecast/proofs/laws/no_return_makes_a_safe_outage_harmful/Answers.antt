@@ -1,5 +1,4 @@
-use Rattle.lrc_forecast.specs.Forecasts.{state_with}
-use Rattle.lrc_forecast.proofs.FutureLemmas.{returns-agree}
+use Rattle.lrc_forecast.proofs.FutureLemmas.{returns-agree, all-agree}
 use Rattle.lrc_forecast.proofs.SafeLemmas.{safe-none}
 use Rattle.lrc_forecast.proofs.laws.no_return_makes_a_safe_outage_harmful.Goals as goal
 
@@ -8,4 +7,7 @@ returns-clause-stripe c = λ nodes past more st outage ns calls s seated all non
 
 pub returns-clause-all : goal.returns-clause-all
 returns-clause-all c = λ nodes past more st outage ns calls s seated all safe there.
-    returns-agree nodes st ns s seated outage past more calls all (safe-none nodes st (state_with outage st ns) safe s there)
+    returns-agree nodes st ns s seated outage past more calls all (safe-none nodes st outage ns safe s there)
+
+pub returns-clause-with_up : goal.returns-clause-with_up
+returns-clause-with_up c = λ nodes past more st outage ns calls s seated all none. all-agree nodes st ns s seated outage past more calls all none

@@ -2,7 +2,7 @@ use Rattle.std.proofs.Common.{rules, ◌≡◌, ℕ, ◌∷◌, [], ◌++◌, de
 use Rattle.std.specs.Prelude.{count_by}
 use Rattle.lrc_book.specs.Books.{state_of}
 use Rattle.lrc_book.specs.Looks.{stripes_of}
-use Rattle.lrc_forecast.specs.Forecasts.{state_with, forecast}
+use Rattle.lrc_forecast.specs.Forecasts.{forecast}
 use Rattle.lrc_groups.specs.Groups.{numbers_in}
 use Rattle.lrc_show.specs.declared.nodes.NodeFacts.{NodeFacts}
 use Rattle.lrc_show.specs.Listed.{all_leases}
@@ -22,7 +22,7 @@ push_outlooks-requires c =
     let numbers = c.as_slice-2.result.now in
     let rows : c.as_slice-4.result.now ≡ forecast nodes st c.args.outage numbers = search rules in
     let long : c.len.result ≡ length (stripes_of st) = search rules in
-    let fewer = fewer-rows nodes st (state_with c.args.outage st numbers) (stripes_of st) in
+    let fewer = fewer-rows nodes st c.args.outage numbers (stripes_of st) in
     let as_long = ap length rows in record { fewer = omega (arith, fewer, as_long, long) }
 
 pub returns-clause-text : goal.returns-clause-text

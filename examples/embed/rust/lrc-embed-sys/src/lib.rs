@@ -13,7 +13,7 @@ pub const LRC_CLOSED: lrc_handle = lrc_handle { is_open: false, at: core::ptr::n
 /// The version of the interface, which rises with every change of what this header declares: with each function, struct, field and
 /// number that is new or means something else. lrc_embed_version() returns that of the library. Compare them at the start, and go
 /// on only if they are the same. An lrc_entry has one layout in all versions, so that saved ones stay readable.
-pub const LRC_EMBED_VERSION: u32 = 7;
+pub const LRC_EMBED_VERSION: u32 = 8;
 
 /// The version of the rules: of what each command returns and changes. lrc_embed_rules_version() returns that of the library. A
 /// log replays alike in all libraries of one version of the rules. In those of another one a reply may differ, and an image may be
@@ -507,9 +507,8 @@ pub struct lrc_outlook {
     pub newly_missing: u16,
     /// an lrc_code
     pub code: u8,
-    /// 0 or 1: it is unavailable or lost then; and it is neither now, or a home of it, or the target of a live lease, goes: with
-    /// LRC_LOSE it is on one of the nodes, with LRC_STOP on one of those that are neither down nor gone now, whichever domain
-    /// upgrades
+    /// 0 or 1: it is unavailable or lost then; and it is neither now, or a home of it, or the target of a live lease, is on one of
+    /// the nodes
     pub is_harmed: u8,
     /// how many leases of it end by the outage
     pub leases_ended: u8,
@@ -853,13 +852,12 @@ extern "C" {
     pub fn lrc_embed_entries(handle: *mut lrc_handle, place: u64, rows: *mut lrc_entry, length: usize, count: *mut usize) -> u32;
     /// What would become of the stripes if all these nodes stopped at once, or were lost: `outage` is an lrc_outage. The rows are
     /// the stripes that would not be whole then, in rising order, also those that are not whole now. `*is_safe` is 1 if no stripe
-    /// is harmed, else 0. So it is 0 too where a stripe that is unavailable or lost now would lose a home or the target of a
-    /// lease. A stripe that is not harmed is, after any LRC_UP, LRC_UPGRADED and LRC_REPORT that follow, recoverable with the
-    /// outage exactly if it is without; other calls that follow are left out. A node that is down or gone changes nothing where it
-    /// stops, but one that is offline only by an upgrade does; where a node is lost, its homes are. Nothing changes. DONE,
-    /// IS_CLOSED, OUT_OF_MEMORY; OUT_OF_RANGE if it is no outage; UNKNOWN if there is no such node; or SHORT if there are more
-    /// rows than `length`, which cannot be with LRC_STRIPES rows, and then only `count`, the rows that it needs, and `is_safe` are
-    /// written.
+    /// is harmed, else 0. So it is 0 too where a stripe that is unavailable or lost now has a home or the target of a lease on one
+    /// of the nodes, also on one that is down. Take any LRC_UP, LRC_UPGRADED and LRC_REPORT that follow, with the outage without
+    /// the LRC_UP of its nodes: after each of them a stripe that is not harmed is recoverable with the outage exactly if it is
+    /// without. Other calls that follow are left out. Where a node is lost, its homes are. Nothing changes. DONE, IS_CLOSED,
+    /// OUT_OF_MEMORY; OUT_OF_RANGE if it is no outage; UNKNOWN if there is no such node; or SHORT if there are more rows than
+    /// `length`, which cannot be with LRC_STRIPES rows, and then only `count`, the rows that it needs, and `is_safe` are written.
     pub fn lrc_embed_forecast(
         handle: *mut lrc_handle,
         outage: u8,

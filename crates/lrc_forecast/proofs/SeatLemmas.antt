@@ -1,4 +1,4 @@
--- Which nodes go away by an outage, and which stripes lose a seat by it.
+-- Which nodes are gone or down after an outage, and which stripes have a seat on its nodes.
 use Rattle.std.proofs.Common.{◌≡◌, ◌≢◌, ◌↔◌, ℕ, ◌<◌, ◌&&◌, ◌||◌, Bool, true, false, not, List, [], ◌∷◌, map, get_or, Option, Some, None, unwrap_or, option_map, refl, sym, ap, ap₂, ◌∙◌, subst, inl, inr}
 use Rattle.std.specs.Prelude.{IsSomeAnd}
 use Rattle.std.specs.List.{Contains, list_any}
@@ -34,8 +34,8 @@ use Rattle.lrc_rules.proofs.StateLemmas.{held_on}
 use Rattle.lrc_rules.proofs.StateLemmas as state
 use Rattle.lrc_forecast.specs.declared.outlook.Outage.{Outage}
 use Rattle.lrc_forecast.specs.declared.outlook.Outage.TheVariants.{Stop, Lose}
-use Rattle.lrc_forecast.specs.Forecasts.{report_of, state_with, goes_away, is_taken_away, lease_target, loses_seat, KeepsSeats}
-use Rattle.lrc_forecast.specs.Hits.{IsSetOf, would_go, is_on_going, has_going_seat}
+use Rattle.lrc_forecast.specs.Forecasts.{report_of, state_with, is_on_any, lease_target, has_seat_on_any, HasNoSeatOn}
+use Rattle.lrc_forecast.specs.Hits.{IsSetOf, is_on_set, has_seat_on_set}
 use Rattle.lrc_forecast.proofs.OutageLemmas.{gone-by, added, or_false}
 
 -- ---- which nodes are gone or down after an outage
@@ -87,38 +87,6 @@ down-lost st (m ∷ ns) n =
     ∙ left-two (same_node m n) (has_number ns n) (is_down st n)
     ∙ ap (λ (b : Bool). is_down st n && not (b || has_number ns n)) (test-sym m.value n.value)
 
-stop-by : (g d h : Bool) → ((g && not g) || ((d || h) && not d)) ≡ (h && not d)
-stop-by true true true = refl
-stop-by true true false = refl
-stop-by true false true = refl
-stop-by true false false = refl
-stop-by false true true = refl
-stop-by false true false = refl
-stop-by false false true = refl
-stop-by false false false = refl
-
-lose-by : (g d h : Bool) → (((g || h) && not g) || ((d && not h) && not d)) ≡ (h && not g)
-lose-by true true true = refl
-lose-by true true false = refl
-lose-by true false true = refl
-lose-by true false false = refl
-lose-by false true true = refl
-lose-by false true false = refl
-lose-by false false true = refl
-lose-by false false false = refl
-
--- a node that stops goes away if it is named and is not down already
-pub goes-stopped : (st : State) (ns : List NodeNo) (n : NodeNo) → goes_away st (state_with Stop st ns) n ≡ (has_number ns n && not (is_down st n))
-goes-stopped st ns n =
-    ap₂ (λ (g d : Bool). (g && not (is_gone (mode_of st n))) || (d && not (is_down st n))) (ap is_gone (mode-stopped st ns n)) (down-stopped st ns n)
-    ∙ stop-by (is_gone (mode_of st n)) (is_down st n) (has_number ns n)
-
--- a node that is lost does if it is named and is not gone already
-pub goes-lost : (st : State) (ns : List NodeNo) (n : NodeNo) → goes_away st (state_with Lose st ns) n ≡ (has_number ns n && not (is_gone (mode_of st n)))
-goes-lost st ns n =
-    ap₂ (λ (g d : Bool). (g && not (is_gone (mode_of st n))) || (d && not (is_down st n))) (gone-lost st ns n) (down-lost st ns n)
-    ∙ lose-by (is_gone (mode_of st n)) (is_down st n) (has_number ns n)
-
 -- ---- seats stand on nodes of the store that are not gone
 
 there-by : (slot : ℕ) (o : Option NodeInfo) (m : Mode) → IsSomeAnd o (λ n. (slot < n.slots) × (m ≢ Gone)) → is_gone m ≡ false
@@ -143,9 +111,9 @@ module _ (nodes : List NodeInfo) (st : State) (seated : AreSeated nodes st) wher
   target-held s f l is =
       Contains-append_right st.homes (map held_by st.leases) (held_by l) (map-member held_by st.leases l (leases_in-contains st.leases s f.value l is))
 
-  module _ (after : State) (s : StripeNo) where
+  module _ (ns : List NodeNo) (s : StripeNo) where
     abbrev test : Fragment → Bool
-    test f = is_taken_away st after (homes_of st.homes s f.value) || is_taken_away st after (lease_target st s f)
+    test f = is_on_any ns (homes_of st.homes s f.value) || is_on_any ns (lease_target st s f)
 
     fragment-listed : (f : Fragment) → Contains all_fragments f
     fragment-listed f = code-fragments Wide f (lt-ltb f.value 16 f.in_range)
@@ -154,79 +122,54 @@ module _ (nodes : List NodeInfo) (st : State) (seated : AreSeated nodes st) wher
     either-on true b off = absurd (cc)
     either-on false b off = (refl, off)
 
-    none-of : loses_seat st after s ≡ false → (f : Fragment) → test f ≡ false
-    unfolding loses_seat
+    none-of : has_seat_on_any st ns s ≡ false → (f : Fragment) → test f ≡ false
+    unfolding has_seat_on_any
     none-of none f = false_from_ne_true (test f) (λ hit.
         let both : true ≡ false = sym (list_any-member test all_fragments f (fragment-listed f) hit) ∙ none in cc)
 
-    keeps : loses_seat st after s ≡ false → KeepsSeats st after s
-    keeps none h here own = elim (Contains-append_cases st.homes (map held_by st.leases) h here) [
+    none-there : has_seat_on_any st ns s ≡ false → HasNoSeatOn st ns s
+    none-there none h here own = elim (Contains-append_cases st.homes (map held_by st.leases) h here) [
       | inl home ↦
           let found : homes_of st.homes h.stripe h.fragment.value ≡ Some h.seat = ap seat_in (home-only st.homes seated.one_home h home) in
           let mine : homes_of st.homes s h.fragment.value ≡ Some h.seat = subst (λ (r : StripeNo). homes_of st.homes r h.fragment.value ≡ Some h.seat) own found in
-          sym (ap (is_taken_away st after) mine) ∙ (either-on _ _ (none-of none h.fragment)).0
+          sym (ap (is_on_any ns) mine) ∙ (either-on _ _ (none-of none h.fragment)).0
       | inr target ↦
           let m = Contains-unmap held_by st.leases h target in
           let l = m.0 in
           let mine : l.stripe ≡ s = ap (λ (k : Held). k.stripe) m.2 ∙ own in
           let live : lease_of st s l.fragment ≡ Some l =
           subst (λ (r : StripeNo). lease_of st r l.fragment ≡ Some l) mine (contains-leases_in st.leases l seated.one_lease m.1) in
-          ap (λ (k : Held). goes_away st after k.seat.node) (sym m.2)
-          ∙ sym (ap (λ (o : Option Lease). is_taken_away st after (option_map (λ k. k.target) o)) live) ∙ (either-on _ _ (none-of none l.fragment)).1
+          ap (λ (k : Held). has_number ns k.seat.node) (sym m.2)
+          ∙ sym (ap (λ (o : Option Lease). is_on_any ns (option_map (λ k. k.target) o)) live) ∙ (either-on _ _ (none-of none l.fragment)).1
     ]
 
-    kept-none : KeepsSeats st after s → loses_seat st after s ≡ false
-    unfolding loses_seat
-    kept-none all = false_from_ne_true (list_any test all_fragments) (λ hit.
+    there-none : HasNoSeatOn st ns s → has_seat_on_any st ns s ≡ false
+    unfolding has_seat_on_any
+    there-none all = false_from_ne_true (list_any test all_fragments) (λ hit.
         let (f, among, on) = member-list_any test all_fragments hit in
         let both : true ≡ false = sym on ∙ each f in cc)
       where
-        home-kept : (f : Fragment) (o : Option Seat) → homes_of st.homes s f.value ≡ o → is_taken_away st after o ≡ false
-        home-kept f None is = refl
-        home-kept f (Some seat) is = all (held_on s f seat) (home-held s f seat is) refl
+        home-off : (f : Fragment) (o : Option Seat) → homes_of st.homes s f.value ≡ o → is_on_any ns o ≡ false
+        home-off f None is = refl
+        home-off f (Some seat) is = all (held_on s f seat) (home-held s f seat is) refl
 
-        target-kept : (f : Fragment) (o : Option Lease) → lease_of st s f ≡ o → is_taken_away st after (option_map (λ l. l.target) o) ≡ false
-        target-kept f None is = refl
-        target-kept f (Some l) is = all (held_by l) (target-held s f l is) (leases_in-own st.leases s f.value l is).0
+        target-off : (f : Fragment) (o : Option Lease) → lease_of st s f ≡ o → is_on_any ns (option_map (λ l. l.target) o) ≡ false
+        target-off f None is = refl
+        target-off f (Some l) is = all (held_by l) (target-held s f l is) (leases_in-own st.leases s f.value l is).0
 
         each : (f : Fragment) → test f ≡ false
-        each f = ap₂ (λ (a b : Bool). a || b) (home-kept f (homes_of st.homes s f.value) refl) (target-kept f (lease_of st s f) refl)
+        each f = ap₂ (λ (a b : Bool). a || b) (home-off f (homes_of st.homes s f.value) refl) (target-off f (lease_of st s f) refl)
 
-    pub seats-words : (loses_seat st after s ≡ false) ↔ KeepsSeats st after s
-    seats-words = (keeps, kept-none)
+    pub seats-words : (has_seat_on_any st ns s ≡ false) ↔ HasNoSeatOn st ns s
+    seats-words = (none-there, there-none)
 
-  -- ---- as the program finds them
+-- ---- as the program finds them
 
-  module _ (ns : List NodeNo) (set : List Bool) (are : IsSetOf ns set) where
-    down-known : (n : NodeNo) (o : Option NodeInfo) → node_at nodes n ≡ o → (slot : ℕ) (m : Mode) → IsSomeAnd o (λ k. (slot < k.slots) × (m ≢ Gone))
-        → unwrap_or (option_map (λ (k : NodeInfo). is_down st k.number) o) false ≡ is_down st n
-    down-known n None is slot m at = absurd at
-    down-known n (Some k) is slot m at = ap (is_down st) (sym (member-node_at nodes n k is).1)
+module _ (st : State) (ns : List NodeNo) (set : List Bool) (are : IsSetOf ns set) where
+  pub on-set : (o : Option Seat) → is_on_set set o ≡ is_on_any ns o
+  on-set None = refl
+  on-set (Some seat) = are seat.node
 
-    goes-as : (outage : Outage) (seat : Seat) → IsStanding nodes st seat
-        → (get_or set seat.node.value false && would_go outage nodes st seat.node) ≡ goes_away st (state_with outage st ns) seat.node
-    goes-as Stop seat at =
-        let n = seat.node in
-        ap₂ (λ (a b : Bool). a && not b) (are n) (down-known n (node_at nodes n) refl seat.slot (mode_of st n) at) ∙ sym (goes-stopped st ns n)
-    goes-as Lose seat at =
-        let n = seat.node in
-        ap (λ (b : Bool). b && true) (are n)
-        ∙ ap (λ (g : Bool). has_number ns n && not g) (sym (there-by seat.slot (node_at nodes n) (mode_of st n) at)) ∙ sym (goes-lost st ns n)
-
-    going-as : (outage : Outage) (o : Option Seat) → ((seat : Seat) → o ≡ Some seat → IsStanding nodes st seat)
-        → is_on_going set outage nodes st o ≡ is_taken_away st (state_with outage st ns) o
-    going-as outage None at = refl
-    going-as outage (Some seat) at = goes-as outage seat (at seat refl)
-
-    pub loses-as : (outage : Outage) (s : StripeNo) → list_any (has_going_seat set outage nodes st s (homes_of st.homes s)) all_fragments ≡ loses_seat st (state_with outage st ns) s
-    unfolding loses_seat
-    loses-as outage s = λ i. list_any (λ (f : Fragment). home f i || target f i) all_fragments where
-      home : (f : Fragment) → is_on_going set outage nodes st (homes_of st.homes s f.value) ≡ is_taken_away st (state_with outage st ns) (homes_of st.homes s f.value)
-      home f = going-as outage (homes_of st.homes s f.value) (λ seat is. stands (held_on s f seat) (home-held s f seat is))
-
-      target-stands : (f : Fragment) (o : Option Lease) → lease_of st s f ≡ o → (seat : Seat) → option_map (λ (l : Lease). l.target) o ≡ Some seat → IsStanding nodes st seat
-      target-stands f None is seat same = absurd (cc)
-      target-stands f (Some l) is seat same = subst (IsStanding nodes st) (same_Some l.target seat same) (stands (held_by l) (target-held s f l is))
-
-      target : (f : Fragment) → is_on_going set outage nodes st (lease_target st s f) ≡ is_taken_away st (state_with outage st ns) (lease_target st s f)
-      target f = going-as outage (lease_target st s f) (target-stands f (lease_of st s f) refl)
+  pub seats-as : (s : StripeNo) → list_any (has_seat_on_set set st s (homes_of st.homes s)) all_fragments ≡ has_seat_on_any st ns s
+  unfolding has_seat_on_any
+  seats-as s = λ i. list_any (λ (f : Fragment). on-set (homes_of st.homes s f.value) i || on-set (lease_target st s f) i) all_fragments
