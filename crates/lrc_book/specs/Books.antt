@@ -1,16 +1,14 @@
 -- What contracts see of a book.
-use Rattle.std.specs.Prelude.{◌≡◌, ℕ, ◌+◌, ◌<◌, ◌⊎◌, ◌++◌, Bool, IsFalse, List, [], length, Option, Some, None}
+use Rattle.std.specs.Prelude.{◌≡◌, ℕ, ◌+◌, ◌<◌, ◌⊎◌, ◌++◌, Bool, List, [], length, Option, Some, None}
 use Rattle.std.specs.Global.{Box}
 use Rattle.lrc_code.specs.declared.fault.Fault.{Fault}
 use Rattle.lrc_code.specs.declared.numbers.StripeNo.{StripeNo}
-use Rattle.lrc_code.specs.declared.numbers.NodeNo.{NodeNo}
 use Rattle.lrc_code.specs.declared.numbers.Fragment.{Fragment}
 use Rattle.lrc_code.specs.declared.fault.Fault.TheVariants.{OutOfMemory, HistoryFull}
 use Rattle.lrc_topology.specs.declared.NodeInfo.{NodeInfo}
 use Rattle.lrc_topology.specs.Nodes.{AreNodes}
 use Rattle.lrc_rules.specs.declared.entry.Entry.{Entry}
-use Rattle.lrc_rules.specs.States.{State, load, level_shown}
-use Rattle.lrc_rules.specs.Touching.{can_change_level, can_change_load}
+use Rattle.lrc_rules.specs.States.{State}
 use Rattle.lrc_rules.specs.Leases.{grants}
 use Rattle.lrc_rules.specs.Histories.{World, first_world, outcome_in, next_world, world_from, state_from, IsLegalFrom}
 use Rattle.lrc_images.specs.declared.image.Image.{Image}
@@ -63,14 +61,6 @@ IsStep b e = (outcome_in b.nodes (world_of b) e.session e.command).0 ≡ e.reply
 -- the state after the entry, as the book's next one
 abbrev pub state_after_entry : BookView → Entry → State
 state_after_entry b e = (next_world b.nodes (world_of b) e).state
-
--- What the entry can change of the published view: at most the levels of the stripes and the loads of the nodes for which the
--- two tests hold. All others are the same in the state after the entry.
-pub record ChangesTheseAlone (b : BookView) (e : Entry) : Type 0 where
-  pub levels : (s : StripeNo) → IsFalse (can_change_level b.nodes (state_of b) s e.command)
-      → level_shown b.nodes (state_after_entry b e) s ≡ level_shown b.nodes (state_of b) s
-  pub loads : (n : NodeNo) → IsFalse (can_change_load (state_of b) n e.command e.reply)
-      → load (state_after_entry b e) n ≡ load (state_of b) n
 
 -- no book can begin in the state: a count of grants, the clock or the number of entries is above the most with which one
 -- can

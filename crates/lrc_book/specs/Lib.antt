@@ -6,3 +6,4 @@ pub mod Books
 pub mod Kept
 pub mod Looks
 pub mod SameLooks
+pub mod Shown

@@ -7,7 +7,8 @@ ghost use Rattle.lrc_rules.specs.declared.entry.Entry.{Entry as AnyEntry};
 ghost use Rattle.lrc_rules.specs.States.{State};
 ghost use Rattle.lrc_rules.specs.Steps.{step};
 ghost use Rattle.lrc_rules.specs.Histories.{world_from, state_from, outcome_in};
-ghost use Rattle.lrc_book.specs.Books.{IsStep, ChangesTheseAlone, world_of, base_world};
+ghost use Rattle.lrc_book.specs.Books.{IsStep, world_of, base_world};
+ghost use Rattle.lrc_book.specs.Shown.{IsShownAfter};
 ghost use Rattle.lrc_store.specs.Stores.{IsOf, AreFew};
 ghost use Rattle.lrc_store.specs.Repairing.{IsRepairCursor};
 ghost use Rattle.lrc_book.specs.Kept.{IsKept};
@@ -21,8 +22,9 @@ use lrc_store::{RepairCursor, Store, count_grant};
 use std::alloc::{AllocError, Global};
 
 impl Book {
-    /// Returns the entry that a call would add. Nothing changes. `can_change_level` and `can_change_load` tell which levels and
-    /// loads the entry can change; all others stay, and after `commit` the looks return those of the state after the entry.
+    /// Returns the entry that a call would add. Nothing changes. The looks after `commit` are of the state after the
+    /// entry. If the command is refused or idle, that state is the one before. Else the load of each node changes by
+    /// the seats that the entry takes and frees, and only the levels for which `can_change_level` holds can change.
     ///
     /// # Errors
     ///
@@ -30,7 +32,7 @@ impl Book {
     pub fn decide(&self, session: SessionNo, command: Command) -> Result<Entry, Fault>
         ensures asked { IfOk result (λ e. (e.session ≡ session) × (e.command ≡ command)) }
         ensures step { IfOk result (λ e. IsStep self.now e) }
-        ensures shown { IfOk result (ChangesTheseAlone self.now) }
+        ensures shown { IfOk result (IsShownAfter self.now) }
         ensures room { IfOk result (λ e. length self.now.history < self.now.limit) }
         ensures err { IfErr result (λ e. (e ≡ fault.HistoryFull) × (length self.now.history ≡ self.now.limit)) }
     {

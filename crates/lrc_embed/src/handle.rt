@@ -51,6 +51,15 @@ impl LrcHandle {
             owned: OwnedBook::of(book),
         };
     }
+
+    /// Frees the book, if there is one, which closes the handle.
+    pub(crate) fn close(&mut self, alloc: Global)
+        ensures { self.new.owned.book ≡ None }
+    {
+        if let Some(book) = self.take(alloc) {
+            Box::into_inner(book).close();
+        }
+    }
 }
 
 /// A handle may move to another thread.

@@ -66,8 +66,21 @@ impl FeedEnd {
         self.place
     }
 
+    /// Reads the next call and moves past it, if it is written and the feed is not full. Also reports whether the feed
+    /// is finished: if it is, and no call is read, the end has all of its calls.
+    pub fn next(&mut self) -> (Option<FedCall>, bool)
+        ensures some { IfSome result.0 (λ call. (length self.old.calls < 1048576)
+            × (self.new ≡ record (passed self.old call) { known = self.new.known })) }
+        ensures none { IfNone result.0 (self.new ≡ record self.old { known = self.new.known }) }
+        ensures more { self.old.known ≤ self.new.known }
+    {
+        // Before the call is looked for: it may be written, and then the feed finished, between the two.
+        let is_finished = self.feed.is_finished();
+        (self.read(), is_finished)
+    }
+
     /// Reads the next call and moves past it, if it is written and the feed is not full.
-    pub fn read(&mut self) -> Option<FedCall>
+    fn read(&mut self) -> Option<FedCall>
         ensures some { IfSome result (λ call. (length self.old.calls < 1048576)
             × (self.new ≡ record (passed self.old call) { known = self.new.known })) }
         ensures none { IfNone result (self.new ≡ record self.old { known = self.new.known }) }
@@ -90,11 +103,6 @@ impl FeedEnd {
     {
         self.count -= 1;
         self.place -= 1;
-    }
-
-    /// Reports whether the feed gets no more calls. If so, all of its calls are written.
-    pub fn is_finished(&self) -> bool {
-        self.feed.is_finished()
     }
 
     /// Says that the feed gets no more calls.

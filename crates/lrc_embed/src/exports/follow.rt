@@ -46,9 +46,7 @@ pub extern "C" fn lrc_embed_follow(
         viewer.feed.put(end);
         return IS_CLOSED;
     };
-    // Before the calls are read, since the last of them may come just before the end.
-    let is_finished = end.is_finished();
-    let status = catch_up(&mut book, &mut end);
+    let (status, is_finished) = catch_up(&mut book, &mut end);
     if status == DONE {
         *place = end.place();
         *is_published = u8::from(!is_finished);
@@ -58,27 +56,29 @@ pub extern "C" fn lrc_embed_follow(
     status
 }
 
-/// Makes the calls of the feed from here on. A fault ends it before its call.
-fn catch_up(book: &mut Book, end: &mut FeedEnd) -> u32
+/// Makes the calls of the feed from here on. A fault ends it before its call. Returns the status, and whether the feed
+/// is finished and all of its calls are made.
+fn catch_up(book: &mut Book, end: &mut FeedEnd) -> (u32, bool)
     ensures followed { HasFollowed book.old end.old book.new end.new }
-    ensures there { (result ≢ MOVED) → IsAt book.new end.new }
-    ensures moved { (result ≡ MOVED) ↔ (¬ IsAt book.old end.old) }
-    ensures full { (result ≡ FULL) → length book.new.history ≡ book.new.limit }
-    ensures statuses { IsOneOf result (DONE ∷ FULL ∷ OUT_OF_MEMORY ∷ MOVED ∷ []) }
+    ensures there { (result.0 ≢ MOVED) → IsAt book.new end.new }
+    ensures moved { (result.0 ≡ MOVED) ↔ (¬ IsAt book.old end.old) }
+    ensures full { (result.0 ≡ FULL) → length book.new.history ≡ book.new.limit }
+    ensures statuses { IsOneOf result.0 (DONE ∷ FULL ∷ OUT_OF_MEMORY ∷ MOVED ∷ []) }
 {
     if !is_at(book, end.place()) {
-        return MOVED;
+        return (MOVED, false);
     }
     for _ in 0..FEED_LIMIT {
-        let Some(call) = end.read() else {
-            return DONE;
+        let (next, is_finished) = end.next();
+        let Some(call) = next else {
+            return (DONE, is_finished);
         };
         if let Err(fault) = book.add(call.session, call.command) {
             end.unread();
-            return status_of(fault);
+            return (status_of(fault), false);
         }
     }
-    DONE
+    (DONE, false)
 }
 
 /// Returns the status of a fault.

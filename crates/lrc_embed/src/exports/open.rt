@@ -63,14 +63,11 @@ pub extern "C" fn lrc_embed_open(
             return status;
         }
     };
-    match Book::new(alloc, topology) {
-        Ok(book) => match Box::new(alloc, book) {
-            Ok(book) => {
-                handle.put(book);
-                DONE
-            }
-            Err(_) => OUT_OF_MEMORY,
-        },
+    match Book::boxed(alloc, topology) {
+        Ok(book) => {
+            handle.put(book);
+            DONE
+        }
         Err(_) => OUT_OF_MEMORY,
     }
 }
@@ -96,6 +93,6 @@ pub extern "C" fn lrc_embed_close(alloc: Global, handle: &mut LrcHandle) -> u32
     ensures closed { handle.new.owned.book ≡ None }
     ensures status { result ≡ DONE }
 {
-    let _book = handle.take(alloc);
+    handle.close(alloc);
     DONE
 }

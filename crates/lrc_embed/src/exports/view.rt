@@ -1,7 +1,8 @@
 //! Viewers of a published book.
 
 ghost use Rattle.std.specs.Prelude.{◌≡◌, ◌≢◌, ◌⊎◌, ◌↔◌, ◌∷◌, [], None, IsTrue, IfOk, IfErr};
-ghost use Rattle.lrc_book.specs.Books.{IsSpent};
+ghost use Rattle.lrc_topology.specs.Documents.{IsTopologyOf};
+ghost use Rattle.lrc_book.specs.Books.{IsSpent, IsImageOfBook};
 ghost use Rattle.lrc_embed.specs.Calls.{Of};
 ghost use Rattle.lrc_embed.specs.Published.{Both, IsAnyOpen, IsAt, IsViewOf};
 ghost use Rattle.lrc_embed.specs.Statuses.{IsOneOf};
@@ -9,7 +10,7 @@ ghost use Rattle.lrc_embed.specs.Statuses.{IsOneOf};
 use crate::exports::place::is_at;
 use crate::status::{DIFFERENT, DONE, FULL, IS_CLOSED, IS_OPEN, MOVED, OUT_OF_MEMORY};
 use crate::{LrcPublished, LrcViewer};
-use lrc_book::Book;
+use lrc_book::{Book, Image};
 use lrc_code::Fault;
 use lrc_feed::FeedEnd;
 use lrc_openings::begin_over;
@@ -35,7 +36,11 @@ pub extern "C" fn lrc_embed_view(
         → (published.old.book.owned.book ≡ None) ⊎ (published.old.feed.owned.end ≡ None) }
     ensures moved { (result ≢ IS_OPEN) → (result ≢ IS_CLOSED)
         → Both published.old.book.owned.book published.old.feed.owned.end (λ b e. (result ≡ MOVED) ↔ (¬ IsAt b e)) }
-    ensures full { (result ≡ FULL) → Of published.old.book.owned.book IsSpent }
+    ensures full { (result ≢ IS_OPEN) → (result ≢ IS_CLOSED) → (result ≢ MOVED)
+        → Of published.old.book.owned.book (λ b. (result ≡ FULL) ↔ IsSpent b) }
+    ensures different { (result ≢ IS_OPEN) → (result ≢ IS_CLOSED) → (result ≢ MOVED) → (result ≢ FULL)
+        → (result ≢ OUT_OF_MEMORY)
+        → Of published.old.book.owned.book (λ b. (result ≡ DIFFERENT) ↔ (¬ IsTopologyOf nodes.now b.nodes)) }
     ensures statuses { IsOneOf result
         (DONE ∷ IS_CLOSED ∷ IS_OPEN ∷ FULL ∷ OUT_OF_MEMORY ∷ DIFFERENT ∷ MOVED ∷ []) }
 {
@@ -61,7 +66,7 @@ pub extern "C" fn lrc_embed_close_viewer(alloc: Global, viewer: &mut LrcViewer) 
     ensures closed { (viewer.new.book.owned.book ≡ None) × (viewer.new.feed.owned.end ≡ None) }
     ensures status { result ≡ DONE }
 {
-    let _book = viewer.book.take(alloc);
+    viewer.book.close(alloc);
     let _end = viewer.feed.take(alloc);
     DONE
 }
@@ -73,21 +78,23 @@ fn open_view(alloc: Global, book: &Book, end: &FeedEnd, nodes: &[u8], viewer: &m
         (λ view f. IsViewOf book.now view × (f ≡ end.now)) }
     ensures unchanged { (result ≢ DONE) → (viewer.new.book.owned.book ≡ None) × (viewer.new.feed.owned.end ≡ None) }
     ensures moved { (result ≡ MOVED) ↔ (¬ IsAt book.now end.now) }
-    ensures full { (result ≡ FULL) → IsSpent book.now }
+    ensures full { (result ≢ MOVED) → (result ≡ FULL) ↔ IsSpent book.now }
+    ensures different { (result ≢ MOVED) → (result ≢ FULL) → (result ≢ OUT_OF_MEMORY)
+        → (result ≡ DIFFERENT) ↔ (¬ IsTopologyOf nodes.now book.now.nodes) }
     ensures statuses { IsOneOf result (DONE ∷ FULL ∷ OUT_OF_MEMORY ∷ DIFFERENT ∷ MOVED ∷ []) }
 {
     if !is_at(book, end.place()) {
         return MOVED;
     }
-    let view = match view_of(alloc, book, nodes) {
-        Ok(view) => view,
+    let (topology, image) = match start_of(alloc, book, nodes) {
+        Ok(start) => start,
         Err(status) => return status,
     };
-    let Ok(other) = end.again() else {
+    let Ok(other) = another_end(alloc, end) else {
         return OUT_OF_MEMORY;
     };
-    match Box::new(alloc, other) {
-        Ok(other) => {
+    match begin_over(alloc, topology, image) {
+        Ok(view) => {
             viewer.book.put(view);
             viewer.feed.put(other);
             DONE
@@ -96,27 +103,35 @@ fn open_view(alloc: Global, book: &Book, end: &FeedEnd, nodes: &[u8], viewer: &m
     }
 }
 
-/// A book that begins in the image of this one, over the nodes of the text, if they are the same. Else the status.
-fn view_of(alloc: Global, book: &Book, nodes: &[u8]) -> Result<Box<Book>, u32>
-    ensures value { IfOk result (λ view. IsViewOf book.now view.value) }
-    ensures full { IfErr result (λ status. (status ≡ FULL) → IsSpent book.now) }
+/// The nodes and the image of a book, if the nodes are those of the text. Else the status.
+fn start_of(alloc: Global, book: &Book, nodes: &[u8]) -> Result<(Topology, Image), u32>
+    ensures value { IfOk result (λ start. (start.0 ≡ book.now.nodes) × IsImageOfBook book.now start.1) }
+    ensures free { IfOk result (λ start. ¬ IsSpent book.now) }
+    ensures same { IfOk result (λ start. IsTopologyOf nodes.now book.now.nodes) }
+    ensures full { IfErr result (λ status. (status ≡ FULL) ↔ IsSpent book.now) }
+    ensures different { IfErr result (λ status. (status ≡ DIFFERENT) → ¬ IsTopologyOf nodes.now book.now.nodes) }
     ensures statuses { IfErr result (λ status. IsOneOf status (FULL ∷ OUT_OF_MEMORY ∷ DIFFERENT ∷ [])) }
 {
-    let topology = same_nodes(alloc, book.topology(), nodes)?;
     let image = match book.image(alloc) {
         Ok(image) => image,
         Err(Fault::HistoryFull) => return Err(FULL),
         Err(Fault::OutOfMemory) => return Err(OUT_OF_MEMORY),
     };
-    match begin_over(alloc, topology, image) {
-        Ok(view) => Ok(view),
-        Err(_) => Err(OUT_OF_MEMORY),
-    }
+    let topology = same_nodes(alloc, book.topology(), nodes)?;
+    Ok((topology, image))
+}
+
+/// Another end of the feed at the same place, in a box.
+fn another_end(alloc: Global, end: &FeedEnd) -> Result<Box<FeedEnd>, AllocError>
+    ensures { IfOk result (λ other. other.value ≡ end.now) }
+{
+    Ok(Box::new(alloc, end.again()?)?)
 }
 
 /// The nodes of the text, if they are these. Else the status.
 fn same_nodes(alloc: Global, topology: &Topology, nodes: &[u8]) -> Result<Topology, u32>
-    ensures value { IfOk result (λ it. it ≡ topology.now) }
+    ensures value { IfOk result (λ it. (it ≡ topology.now) × IsTopologyOf nodes.now topology.now) }
+    ensures different { IfErr result (λ status. (status ≡ DIFFERENT) → ¬ IsTopologyOf nodes.now topology.now) }
     ensures statuses { IfErr result (λ status. IsOneOf status (OUT_OF_MEMORY ∷ DIFFERENT ∷ [])) }
 {
     let read = match Topology::read(alloc, nodes) {

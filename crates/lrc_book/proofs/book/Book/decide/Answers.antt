@@ -5,7 +5,7 @@ use Rattle.lrc_rules.specs.Steps.{step}
 use Rattle.lrc_rules.proofs.GoodLemmas.{past-from}
 use Rattle.lrc_book.specs.Books.{base_world}
 use Rattle.lrc_book.proofs.CountedLemmas.{few-grants}
-use Rattle.lrc_book.proofs.ShownLemmas.{changes-these}
+use Rattle.lrc_book.proofs.ShownLemmas.{shown-after}
 use Rattle.lrc_book.proofs.book.Book.decide.Goals as goal
 
 pub returns-clause-step : goal.returns-clause-step
@@ -19,7 +19,7 @@ returns-clause-step c =
 
 pub returns-clause-shown : goal.returns-clause-shown
 returns-clause-shown c =
-    changes-these c.args.self.now (record { session = c.args.session; command = c.args.command; reply = c.reply-reply.result }) (returns-clause-step c)
+    shown-after c.args.self.now (record { session = c.args.session; command = c.args.command; reply = c.reply-reply.result }) (returns-clause-step c)
 
 pub returns-clause-room : goal.returns-clause-room
 returns-clause-room c =
