@@ -1,10 +1,11 @@
-//! Books over twenty nodes whose history is full.
+//! Books over twenty nodes: a lease that another session takes over, and histories that are full.
 
 ghost use Rattle.std.specs.Prelude.{◌≤◌};
 
 use crate::close::close_book;
 use crate::expect::expect_number;
-use lrc_book::{Book, Command, Reply};
+use crate::sessions::leases::{NODE, THREE, granted};
+use lrc_book::{Book, Command, Refusal, Reply};
 use lrc_code::{Fault, SessionNo, StripeNo};
 use lrc_samples::{first_seats, second_seats, twenty_nodes};
 use std::alloc::Global;
@@ -15,6 +16,8 @@ use std::test::Fail;
 type Row = (Command, Reply);
 
 const FIRST: SessionNo = SessionNo { value: 1 };
+
+const SECOND: SessionNo = SessionNo { value: 2 };
 
 const ONE: StripeNo = StripeNo { value: 1 };
 
@@ -27,20 +30,44 @@ fn limited(alloc: Global, limit: u32) -> Result<Book, Fail>
     Ok(Book::with_limit(alloc, twenty_nodes(alloc)?, limit)?)
 }
 
-fn call(book: &mut Book, command: Command) -> Result<Reply, Fault> {
-    book.call(FIRST, command)
+fn call(book: &mut Book, session: SessionNo, command: Command) -> Result<Reply, Fault> {
+    book.call(session, command)
 }
 
 /// These commands are made in order, and each has the reply next to it.
-fn expect_replies(rt: &impl Abort, book: &mut Book, rows: &[Row]) {
+fn expect_replies(rt: &impl Abort, book: &mut Book, session: SessionNo, rows: &[Row]) {
     for (command, reply) in rows {
-        assert!(rt; call(book, *command) == Ok(*reply));
+        assert!(rt; call(book, session, *command) == Ok(*reply));
     }
 }
 
 /// The history has as many entries as it may have, so that no command is made.
 fn expect_full(rt: &impl Abort, book: &mut Book, command: Command) {
-    assert!(rt; call(book, command) == Err(Fault::HistoryFull));
+    assert!(rt; call(book, FIRST, command) == Err(Fault::HistoryFull));
+}
+
+#[test]
+fn only_the_holder_reports_and_any_session_revokes(rt: HostRuntime) -> Result<(), Fail> {
+    let mut book = limited(rt.alloc(), 1000)?;
+    take_over(&rt, &mut book);
+    close_book(book);
+    Ok(())
+}
+
+fn take_over(rt: &impl Abort, book: &mut Book) {
+    let rows = [
+        (Command::Place(ONE), Reply::Placed(first_seats())),
+        (Command::Fail(NODE), Reply::Changed),
+        (Command::Lease(ONE, THREE), granted(FIRST, 1)),
+    ];
+    expect_replies(rt, book, FIRST, &rows);
+    let other = Reply::Refused(Refusal::NotHolder(FIRST));
+    let rows = [
+        (Command::Done(ONE, THREE, 1), other),
+        (Command::Revoke(ONE, THREE), Reply::Ended),
+        (Command::Lease(ONE, THREE), granted(SECOND, 2)),
+    ];
+    expect_replies(rt, book, SECOND, &rows);
 }
 
 #[test]
@@ -56,7 +83,7 @@ fn place_both(rt: &impl Abort, book: &mut Book) {
         (Command::Place(ONE), Reply::Placed(first_seats())),
         (Command::Place(TWO), Reply::Placed(second_seats())),
     ];
-    expect_replies(rt, book, &rows);
+    expect_replies(rt, book, FIRST, &rows);
     expect_full(rt, book, Command::Next);
     expect_number(rt, book.history().len() as u64, 2);
 }

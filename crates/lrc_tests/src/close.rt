@@ -3,7 +3,9 @@
 use lrc_book::Book;
 use lrc_sessions::{Closing, Parts};
 
-pub(crate) fn close_book(_book: Book) {}
+pub(crate) fn close_book(book: Book) {
+    book.close();
+}
 
 pub(crate) fn close(_closing: Closing) {}
 

@@ -4,7 +4,7 @@ ghost use Rattle.std.specs.Prelude.{◌≤◌, length};
 
 mod batches;
 mod board;
-mod leases;
+pub(crate) mod leases;
 mod limits;
 mod looks;
 mod managers;

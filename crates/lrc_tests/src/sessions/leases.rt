@@ -15,7 +15,7 @@ use std::sync::Wait;
 use std::test::Fail;
 
 /// The fragment of the first stripe that is leased, and the rest of its local group.
-pub(super) const THREE: Fragment = Fragment { value: 3 };
+pub(crate) const THREE: Fragment = Fragment { value: 3 };
 
 const OF_THREE: Kind = Kind::Local([
     Fragment { value: 0 },
@@ -27,10 +27,10 @@ const OF_THREE: Kind = Kind::Local([
 ]);
 
 /// The node that fragment 3 is on.
-pub(super) const NODE: NodeNo = NodeNo { value: 3 };
+pub(crate) const NODE: NodeNo = NodeNo { value: 3 };
 
 /// Returns the reply that grants the lease of the fragment on the first slot of node 17 before any tick.
-pub(super) fn granted(holder: SessionNo, epoch: u32) -> Reply {
+pub(crate) fn granted(holder: SessionNo, epoch: u32) -> Reply {
     let lease = Lease {
         stripe: ONE,
         fragment: THREE,
