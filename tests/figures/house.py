@@ -13,9 +13,6 @@ names       a name that the specs of two modules define; `believed`: in two modu
 pairs       two places with the same six lines or more, in sources, specs and proofs of crates: without comments, imports, and
             lines of no letter or digit; spaces count once. A longer run is one pair; three places are three pairs
 statuses    each number that a clause of lrc_embed compares with its result
-command     files of crates, without more-edits, that name a command outside comments. Since `next` or `done` are words of all
-            kinds, each counts only as `Command::Next` (or NodeCommand), `command.Next`, in an import of these constructors, in
-            the type itself, as the first word of a string (`"next"`), or as a name of the header (`LRC_NEXT`)
 functions   from the line of their name to their last, clauses and comments in them too: of more than 40 lines"""
 import ast
 import collections
@@ -34,13 +31,7 @@ from tests.proofs import clauses
 TABLE = f"{harness.TESTS}/figures/ceilings"
 ROOTS = ("crates", "docs", "service", "examples", "tests", "tools", "bench")
 PAGES = ("README.md", "CONTRIBUTING.md")
-COMMANDS = "place place6 drop lease next done abandon revoke fail down up drain undrain retire join upgrade upgraded tick".split()
 RUN, COLUMNS, LINES = 6, 120, 40
-CONSTRUCTOR = re.compile(rf"\b(?:{'|'.join(it.capitalize() for it in COMMANDS)})\b")
-OF_COMMAND = re.compile(rf"ommand(?:::|\.)({CONSTRUCTOR.pattern})")
-IMPORTED, OF_TYPE = re.compile(r"ommand\.TheVariants\.(\{[^}]*)"), re.compile(r"enum (?:Node)?Command (\{[^}]*)")
-IN_STRING = re.compile(rf'"({"|".join(COMMANDS)})\b')
-IN_HEADER = re.compile(rf"LRC_({'|'.join(COMMANDS).upper()})\b")
 ANTT_COMMENT, RATTLE_COMMENT = re.compile(r"--(?<!\S--).*"), re.compile(r"//.*")
 IMPORT, COUNTS = re.compile(r"\s*(?:pub |ghost )*use "), re.compile(r"\w")
 CLAUSE = re.compile(r"\b(?:ensures|requires)\b[^{;]*\{")
@@ -173,21 +164,6 @@ def words(pattern, files):
     return sum(len(text.split()) for text in those(files, pattern).values())
 
 
-@functools.cache
-def commands_in(path, text):
-    """The commands that a file names, by the rule that stands above."""
-    text = without_comments(path, text)
-    found = [it for pattern in (OF_COMMAND, IN_STRING, IN_HEADER) for it in pattern.findall(text)]
-    for listed in [*IMPORTED.findall(text), *OF_TYPE.findall(text)]:
-        found += CONSTRUCTOR.findall(listed)
-    return {it.lower() for it in found}
-
-
-def naming(command, files):
-    of_crates = those(files, r"crates/(?!.*/more-edits/).*\.(rt|antt|edit|h)")
-    return sum(command in commands_in(path, text) for path, text in of_crates.items())
-
-
 def of_rattle(text):
     """How many lines each function of Rattle has."""
     lines = text.splitlines()
@@ -255,7 +231,6 @@ FIGURES = {
     "words-README": Figure("words of README.md", functools.partial(words, r"README\.md")),
     "words-CONTRIBUTING": Figure("words of CONTRIBUTING.md", functools.partial(words, r"CONTRIBUTING\.md")),
     "words-docs": Figure("words of the pages of docs", functools.partial(words, r"docs/[^/]*\.md")),
-    **{f"command-{it}": Figure(f"files of crates that name `{it}`", functools.partial(naming, it)) for it in COMMANDS},
     "functions-rattle": Figure("functions of over 40 lines in src of crates",
                                functools.partial(long_functions, r"crates/\w+/src/.*\.rt", of_rattle)),
     "functions-go": Figure("functions of over 40 lines in service and examples",
@@ -266,17 +241,6 @@ FIGURES = {
 
 
 # Small texts, of which the figures are known.
-
-
-def naming_texts(command):
-    """Five texts that name a command, and others that do not."""
-    texts = {"src/a.rt": "match it { Command::KIND => 1 }", "must-fail/a.edit": 'b"WORD 1"', "include/a.h": "LRC_UPPER = 1",
-             "specs/A.antt": "use x.Command.TheVariants.{KIND}", "src/b.rt": "// Command::KIND\nCommand::Other(WORD)",
-             "src/c.rt": "Other::KIND", "src/d.rt": "Command::KINDx", "src/e.rt": "enum NodeCommand {\n    KIND,\n}",
-             "more-edits/b.edit": "Command::KIND", "a.txt": "Command::KIND"}
-    for word, of_command in ("KIND", command.capitalize()), ("WORD", command), ("UPPER", command.upper()):
-        texts = {path: text.replace(word, of_command) for path, text in texts.items()}
-    return {f"crates/a/{path}": text for path, text in texts.items()}
 
 
 def bodies(head, line, end, counts):
@@ -312,7 +276,6 @@ SMALL = {
     "words-README": (FOUR_PAGES, 3),
     "words-CONTRIBUTING": (FOUR_PAGES, 3),
     "words-docs": (FOUR_PAGES, 2),
-    **{f"command-{it}": (naming_texts(it), 5) for it in COMMANDS},
     "functions-rattle": ({"crates/a/src/a.rt": RATTLE_BODIES}, 1),
     "functions-go": ({"service/a.go": bodies("func a() {\n", "\tx()\n", "}\n\nfunc b() {}\n\n", (38, 39))}, 1),
     "functions-python": ({"tests/a": PYTHON_BODIES, "tools/a.py": PYTHON_BODIES, "crates/a.py": PYTHON_BODIES}, 2),

@@ -37,7 +37,7 @@ OLD = {
         "tools/balance": "it plans with what it needs",
         "tests/library/bytes.py": "a scenario", "service/internal/httpapi/recipes_test.go": "a scenario",
         "examples/cluster/**": "a store makes the commands that it needs", "docs/CODING.md": "it shows what such a store does",
-        "docs/SERVICE.md": "it tells of such a store", "tests/figures/ceilings": "tests/figures/house writes it"}),
+        "docs/SERVICE.md": "it tells of such a store"}),
     "A refusal": Old(r"[Tt]arget.?[Oo]ffline|TARGET_OFFLINE|\b115\b", NOWHERE | {"tests/proofs/growth.py": "a scenario"}),
 }
 
