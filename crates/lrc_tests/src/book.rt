@@ -2,7 +2,6 @@
 
 ghost use Rattle.std.specs.Prelude.{◌≤◌};
 
-use crate::close::close_book;
 use crate::expect::expect_number;
 use crate::sessions::leases::{NODE, THREE, granted};
 use lrc_book::{Book, Command, Refusal, Reply};
@@ -50,7 +49,7 @@ fn expect_full(rt: &impl Abort, book: &mut Book, command: Command) {
 fn only_the_holder_reports_and_any_session_revokes(rt: HostRuntime) -> Result<(), Fail> {
     let mut book = limited(rt.alloc(), 1000)?;
     take_over(&rt, &mut book);
-    close_book(book);
+    book.close();
     Ok(())
 }
 
@@ -74,7 +73,7 @@ fn take_over(rt: &impl Abort, book: &mut Book) {
 fn a_history_of_two_entries_takes_no_third(rt: HostRuntime) -> Result<(), Fail> {
     let mut book = limited(rt.alloc(), 2)?;
     place_both(&rt, &mut book);
-    close_book(book);
+    book.close();
     Ok(())
 }
 
@@ -92,7 +91,7 @@ fn place_both(rt: &impl Abort, book: &mut Book) {
 fn a_history_without_room_takes_no_call(rt: HostRuntime) -> Result<(), Fail> {
     let mut book = limited(rt.alloc(), 0)?;
     refuse_all(&rt, &mut book);
-    close_book(book);
+    book.close();
     Ok(())
 }
 

@@ -4,7 +4,6 @@ ghost use Rattle.std.specs.Prelude.{◌≡◌, [], IfOk};
 ghost use Rattle.lrc_rules.specs.Histories.{first_world};
 
 use super::{LAST, ONE, nodes};
-use crate::close::close_book;
 use crate::expect::expect_number;
 use lrc_board::{Batch, Keeper, NewLog, ViewNaming, Viewer};
 use lrc_book::{Book, Command, Level};
@@ -62,7 +61,7 @@ fn close_viewers<N: ViewNaming>(_viewers: Vec<Viewer<N>>) {}
 /// Expects four entries, and drops the book.
 fn close(rt: &impl Abort, book: Book) {
     expect_number(rt, book.history().len() as u64, 4);
-    close_book(book);
+    book.close();
 }
 
 fn show<N: ViewNaming>(keeper: &mut Keeper<N>, viewer: &mut Viewer<N>) {
