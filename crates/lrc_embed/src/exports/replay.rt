@@ -36,6 +36,7 @@ pub extern "C" fn lrc_embed_replay(
         let status = repeat(&mut book, entry);
         if status != DONE {
             *position = i;
+            Box::into_inner(book).close();
             return status;
         }
     }
