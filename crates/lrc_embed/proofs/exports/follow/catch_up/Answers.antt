@@ -15,7 +15,7 @@ loop-preserved c =
     let entry : Entry = record { session = session; command = command; reply = (outcome_in mid.nodes (world_of mid) session command).0 } in
     let same = c.add.ensures.same in
     let read = subst (λ (o : Option FedCall). IfSome o (λ (call : FedCall). (length c.loop.end.calls < 1048576)
-        × (moved ≡ record (passed c.loop.end call) { known = moved.known }))) c.in-Some.is c.next-next.ensures.some in
+    × (moved ≡ record (passed c.loop.end call) { known = moved.known }))) c.in-Some.is c.next-next.ensures.some in
     let past = read.1 in
     let grown = c.in_default-add.ensures.entry in
     record {

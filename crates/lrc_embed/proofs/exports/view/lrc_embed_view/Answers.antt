@@ -11,10 +11,10 @@ returns-clause-done c = λ done. both_some _ c.in-Some-take.ensures.book c.in-So
     (both_seen c.open_view-status.new.viewer.book.owned.book c.open_view-status.new.viewer.feed.owned.end c.deref.ensures c.deref-2.ensures (c.open_view-status.ensures.done done))
 
 pub returns-clause-full : goal.returns-clause-full
-returns-clause-full c = λ open closed moved. of_some _ c.in-Some-take.ensures.book
+returns-clause-full c = λ not_open not_closed moved. of_some _ c.in-Some-take.ensures.book
     (subst (λ (b : BookView). (c.open_view-status.result ≡ FULL) ↔ IsSpent b) c.deref.ensures (c.open_view-status.ensures.full moved))
 
 pub returns-clause-different : goal.returns-clause-different
-returns-clause-different c = λ open closed moved full memory. of_some _ c.in-Some-take.ensures.book
+returns-clause-different c = λ not_open not_closed moved full memory. of_some _ c.in-Some-take.ensures.book
     (subst (λ (b : BookView). (c.open_view-status.result ≡ DIFFERENT) ↔ (¬ IsTopologyOf c.args.nodes.now b.nodes)) c.deref.ensures
     (c.open_view-status.ensures.different moved full memory))
