@@ -64,16 +64,6 @@ def stop(why):
 # Programs.
 
 
-def processors():
-    """How many processors this process may run on."""
-    return len(os.sched_getaffinity(0))
-
-
-def lanes():
-    """How many processes a test runs at once: as many as ./run-tests tells it, beside other tests, or one a processor."""
-    return int(os.environ.get("LANES", "0")) or processors()
-
-
 @functools.cache
 def loaded(path, name=None):
     """The module of a file that runs alone, an example's say, by its own name or this one; what it imports is loaded before it."""

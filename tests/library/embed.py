@@ -562,7 +562,7 @@ def test_refusals(count, programs, is_long):
         env = {**os.environ, "REFUSE_EACH": str(step(run))}
         return subprocess.run([programs[run[0]], run[1]], env=env, capture_output=True, text=True, timeout=3600)
 
-    with ThreadPoolExecutor(harness.lanes()) as pool:
+    with ThreadPoolExecutor(os.cpu_count()) as pool:
         for (name, how), found in zip(runs, pool.map(ended, runs)):
             if count.check(f"embed.c ({name}) {how}: status {found.returncode}: {found.stderr[:2000]}", found.returncode == 0):
                 refused = int(found.stdout) // step((name, how))

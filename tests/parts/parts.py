@@ -35,8 +35,7 @@ class Part:
     needs: str = ""
     minutes: float | None = None
     always: bool = False
-    first: bool = False
-    lanes: int = 1
+    beside: bool = False
 
     @property
     def words(self):

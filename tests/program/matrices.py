@@ -150,7 +150,7 @@ def compare_program(count, program):
     asked = list(questions())
     # (behind `--` a word that begins with a hyphen is no option)
     asked += [["recipe", "--", mask, word] for mask, word in (("0003", "0"), ("-001", "0"), ("0003", "-1"))]
-    with ThreadPoolExecutor(harness.lanes()) as pool:
+    with ThreadPoolExecutor() as pool:
         for words, told in zip(asked, pool.map(ran, asked)):
             count.check(f"lrcman {words}: {told}", told == answer_to([word for word in words if word != "--"]))
 

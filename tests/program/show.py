@@ -326,7 +326,7 @@ def main(words):
     expect_refusals(count, program)
     expect_meaning(count, None if "--quick" in words else program, next((int(word) for word in words if word.isdigit()), None))
     answers = Counter()
-    with ThreadPoolExecutor(harness.lanes()) as pool:
+    with ThreadPoolExecutor(os.cpu_count()) as pool:
         for passed, failed, answered in pool.map(lambda seed: expect_drawn(program, seed), range(drawn)):
             count.passed += passed
             count.failed += failed

@@ -261,7 +261,7 @@ def main(words):
     program, count = harness.program_of([it for it in words if it != "--quick"]), harness.Count()
     lines = first_of_each_word(sweeps()) if is_quick else sweeps()
     short = {"SHORT": "1", "EACH": "20"} if is_quick else {"SHORT": "1"}
-    with tempfile.TemporaryDirectory(prefix="lrcman-sweep-") as room, ThreadPoolExecutor(2 * harness.lanes()) as pool:
+    with tempfile.TemporaryDirectory(prefix="lrcman-sweep-") as room, ThreadPoolExecutor(2 * os.cpu_count()) as pool:
         shim = harness.compiled_shim(room)
         lines = [Sweep(program, shim, f"{room}/{i}", short, *line) for i, line in enumerate(lines)]
         for it, told in zip(lines, pool.map(Sweep.sweep, lines)):

@@ -9,6 +9,7 @@ refused to the call, it makes it once more. tests/program/calls.c refuses memory
   call with ample memory, the result and the state as where nothing was refused;
 - for a call that takes no memory: no request. For any other call something has to be refused in each case.
 The last line is 'N passed, M failed'."""
+import os
 import re
 import subprocess
 import sys
@@ -205,7 +206,7 @@ class Growth:
 
 def main(words):
     program, count, refused = harness.program_of(words, "probes"), harness.Count(), {}
-    with tempfile.TemporaryDirectory(prefix="growth-") as room, ThreadPoolExecutor(harness.lanes()) as pool:
+    with tempfile.TemporaryDirectory(prefix="growth-") as room, ThreadPoolExecutor(os.cpu_count()) as pool:
         growth = Growth(program, harness.compiled_shim(room), room)
         for case, requests, right, wrong in pool.map(growth.judge, cases()):
             refused.setdefault((case.call, case.name), []).append(requests)

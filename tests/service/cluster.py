@@ -14,9 +14,8 @@ import time
 # Members take changes however full the machine's disk is, unless a test gives them a reserve of its own.
 NO_RESERVE = ["--disk-reserve", "0"]
 
-# The system gives clients ports from 32768 on, and examples/cluster takes those from 15000 on, so none of them takes the port of a
-# member that is away.
-PORTS = iter(random.sample(range(10000, 15000), 5000))
+# The system gives clients ports from 32768 on, so none of them takes the port of a member that is away.
+PORTS = iter(random.sample(range(10000, 20000), 10000))
 
 
 def place(room):
